@@ -47,3 +47,7 @@ same-as kind v (refused n) = false
 -- Whether a value is same as of(0): a false condition, a member who has left.
 abbrev pub is-zero : {V : Type 0} → Kind V → V → Bool
 is-zero kind v = same-as kind v (kind .of 0)
+
+-- Whether a figure stands for a value that is same as of(0).
+abbrev pub stands-for-zero : {F V : Type 0} → Kind V → (F → V) → F → Bool
+stands-for-zero kind means x = is-zero kind (means x)
