@@ -1,0 +1,5 @@
+pub mod Answers
+pub mod Check
+pub mod Codes
+pub mod Descriptors
+pub mod Operations

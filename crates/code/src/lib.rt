@@ -1,0 +1,7 @@
+// Stack code: its operations, its check, and its stored form.
+pub mod check;
+pub mod checked;
+pub mod descriptor;
+pub mod operations;
+pub mod refusals;
+pub mod sizes;
