@@ -149,19 +149,20 @@ pub data Ruling : Type 0 where
   goes-on : ℕ → Ruling
   breaks : ℕ → Ruling
 
-abbrev pub ruling : Code → ℕ → ℕ → ℕ → Option Operation → Ruling
-ruling c i x d None = breaks 22
-ruling c i x d (Some o) =
-    cond (operand-ok (c .sizes) (operand o) x)
-    (cond (depth-ok (c .sizes) o d)
-    (cond (place-ok (c .operations) i (role o) x)
-    (cond (last-ok (c .operations) i (role o)) (goes-on (depth-after o d)) (breaks 26)) (breaks 25)) (breaks 24)) (breaks 23)
+abbrev pub ruling : Sizes → List ℕ → ℕ → ℕ → ℕ → Option Operation → Ruling
+ruling s os i x d None = breaks 22
+ruling s os i x d (Some o) =
+    cond (operand-ok s (operand o) x)
+    (cond (depth-ok s o d)
+    (cond (place-ok os i (role o) x)
+    (cond (last-ok os i (role o)) (goes-on (depth-after o d)) (breaks 26)) (breaks 25)) (breaks 24)) (breaks 23)
 
 -- The operations from place i on, of which the first finds d figures.
 abbrev pub check-from : Code → List ℕ → ℕ → ℕ → Verdict
 check-from c [] i d = passes
 check-from c (b ∷ bs) i d =
-    elim (ruling c i (getD (c .operands) i 0) d (operation b)) [ goes-on e ↦ check-from c bs (i + 1) e | breaks k ↦ refused k (Some i) ]
+    elim (ruling (c .sizes) (c .operations) i (getD (c .operands) i 0) d (operation b))
+    [ goes-on e ↦ check-from c bs (i + 1) e | breaks k ↦ refused k (Some i) ]
 
 unfoldable pub check : Code → Verdict
 check c =

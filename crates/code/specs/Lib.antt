@@ -1,5 +1,6 @@
 pub mod Answers
 pub mod Check
+pub mod CheckedCode
 pub mod Codes
 pub mod Descriptors
 pub mod Operations

@@ -1,14 +1,21 @@
 // The check of code, rule by rule.
 ghost use mathlib.Core.Path.{_≡_};
-ghost use Prim.Native.Nat.{_+_, _<_, _≤_};
+ghost use Prim.Native.Nat.{ℕ, _+_, _<_, _≤_};
+ghost use Rattle.std.specs.Results.{Cases};
+ghost use Rattle.std.specs.declared.option.Option.the-variants.{Some};
+ghost use Rattle.code.specs.Answers.{ruling-of, told-at, verdict-of};
+ghost use Rattle.code.specs.Operations.{operation};
 ghost use lib.ListN.{length};
-ghost use Rattle.code.specs.Check.{closed, closes, depth-ok, is-jump-table, leading-jumps, last-ok, may-land, opens, operand-ok, place-ok, sizes-ok, target-ok};
-ghost use Rattle.code.specs.Codes.{role-at};
+ghost use Rattle.code.specs.Check.{check as verdict, check-from, closed, closes, depth-ok, is-jump-table, leading-jumps, last-ok, may-land, opens, operand-ok, place-ok, ruling, sizes-ok, target-ok};
+ghost use Rattle.code.specs.CheckedCode.{code-in};
+ghost use Rattle.code.specs.Codes.{code-of, role-at};
+use crate::checked::Checked;
 use crate::descriptor::Descriptor;
 use crate::operations::Operand;
 use crate::operations::Operation;
 use crate::operations::Role;
 use crate::operations::decode;
+use crate::refusals::Refusal;
 use crate::sizes::Sizes;
 
 // 21: the sizes, over arrays of these lengths.
@@ -149,4 +156,70 @@ fn is_last_ok(operations: &[u8], place: usize, role: Role) -> bool
     ensures { λ r. ⌜ r ≡ last-ok (now (operations .entry)) place role ⌝ }
 {
     place + 1 < operations.len() || is_closed(Some(role))
+}
+
+// The figures on the stack after the operation at `place`, which finds `depth`, or the first rule that it breaks.
+fn judge(
+    sizes: Sizes,
+    operations: &[u8],
+    place: usize,
+    byte: u8,
+    x: u64,
+    depth: usize,
+) -> Result<usize, Refusal>
+    requires { ⌜ place < length (now operations) ⌝ ∗ ⌜ depth ≤ 256 ⌝ }
+    ensures ruling { λ r. ⌜ ruling-of r ≡ ruling sizes (now (operations .entry)) place x depth (operation byte) ⌝ }
+    ensures at { λ r. ⌜ Cases r (λ d. d ≤ sizes .depth) (λ e. told-at e ≡ Some place) ⌝ }
+{
+    let Some(operation) = decode(byte) else {
+        return Err(Refusal::UnknownOperation(place));
+    };
+    if !is_operand_ok(sizes, operation.operand(), x) {
+        Err(Refusal::BadOperand(place))
+    } else if !is_depth_ok(sizes, operation, depth) {
+        Err(Refusal::BadDepth(place))
+    } else if !is_place_ok(operations, place, operation.role(), x) {
+        Err(Refusal::BadTarget(place))
+    } else if !is_last_ok(operations, place, operation.role()) {
+        Err(Refusal::BadLast(place))
+    } else {
+        Ok(depth - operation.taken() + operation.left())
+    }
+}
+
+// 22 to 26: the operations in their order, with the figures on the stack counted along.
+fn check_operations(sizes: Sizes, operations: &[u8], operands: &[u64]) -> Result<(), Refusal>
+    requires { ⌜ length (now operations) ≤ length (now operands) ⌝ ∗ ⌜ sizes .depth ≤ 256 ⌝ }
+    ensures { λ r. ⌜ verdict-of r ≡ check-from (record { sizes = sizes; operations = now (operations .entry); operands = now (operands .entry) }) (now (operations .entry)) 0 0 ⌝ }
+{
+    let mut depth = 0;
+    for (i, byte) in operations.iter().enumerate() {
+        depth = judge(sizes, operations, i, *byte, operands[i], depth)?;
+    }
+    Ok(())
+}
+
+// Checks code: the first n entries of both arrays. Code that passes is put into `place`, which else stays as it was.
+pub fn check<'a>(
+    place: &mut Checked<'a>,
+    sizes: Sizes,
+    operations: &'a [u8],
+    operands: &'a [u64],
+) -> Result<(), Refusal>
+    ensures answer { λ r. ⌜ verdict-of r ≡ verdict (code-of sizes (now (operations .entry)) (now (operands .entry))) ⌝ }
+    ensures after { λ r. ⌜ Cases r (λ _. code-in (now (place .exit)) ≡ code-of sizes (now (operations .entry)) (now (operands .entry))) (λ _. now (place .exit) ≡ now (place .entry)) ⌝ }
+{
+    if !are_sizes_ok(sizes, operations.len(), operands.len()) {
+        return Err(Refusal::BadSizes);
+    }
+    let count = sizes.operations as usize;
+    let (bytes, _) = operations.split_at(count);
+    let (numbers, _) = operands.split_at(count);
+    check_operations(sizes, bytes, numbers)?;
+    *place = Checked {
+        sizes,
+        operations: bytes,
+        operands: numbers,
+    };
+    Ok(())
 }
