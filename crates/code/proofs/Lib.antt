@@ -1,2 +1,4 @@
+pub mod Passing
 pub mod Places
+pub mod Rulings
 pub mod Verdicts

@@ -1,5 +1,5 @@
 -- The verdict on a code, step by step: what the check of the operations from a place on comes to.
-use mathlib.Core.Path.{_≡_, refl, sym, ap, _∙_}
+use mathlib.Core.Path.{_≡_, refl, sym, ap, ap₂, _∙_}
 use mathlib.Core.Bool.{Bool, true, false, cond, _&&_}
 use mathlib.Core.List.{List, [], _∷_}
 use Prim.Native.Nat.{ℕ, _+_, _<_, _≤_, min}
@@ -14,7 +14,7 @@ use Rattle.code.specs.declared.operations.Operation.{Operation}
 use Rattle.code.specs.declared.sizes.Sizes.{Sizes}
 use Rattle.code.specs.Operations.{operation}
 use Rattle.code.specs.Codes.{Code, code-of}
-use Rattle.code.specs.Check.{Ruling, goes-on, breaks, Verdict, passes, refused, ruling, check, check-from, sizes-ok}
+use Rattle.code.specs.Check.{Ruling, goes-on, breaks, Verdict, passes, refused, ruling, check, check-from, limits-ok, lent-ok, sizes-ok}
 
 -- What the check says of the operation at a place that finds d figures.
 abbrev pub ruling-at : Code → ℕ → ℕ → Ruling
@@ -35,25 +35,26 @@ module _ (c : Code) (i d : ℕ) where
 
 -- The sizes decide first.
 module _ (c : Code) where
-  pub check-bad-sizes : sizes-ok (c .sizes) (length (c .operations)) (length (c .operands)) ≡ false → check c ≡ refused 21 None
+  pub check-bad-sizes : sizes-ok c ≡ false → check c ≡ refused 21 None
   unfolding check
   check-bad-sizes e = rw e
 
-  pub check-good-sizes : sizes-ok (c .sizes) (length (c .operations)) (length (c .operands)) ≡ true → check c ≡ check-from c (c .operations) 0 0
+  pub check-good-sizes : sizes-ok c ≡ true → check c ≡ check-from c (c .operations) 0 0
   unfolding check
   check-good-sizes e = rw e
 
 -- Lent arrays have entries enough just where their first n entries are n.
-pub sizes-ok-cut : (s : Sizes) (os xs : List ℕ) → sizes-ok s (length (take (s .operations) os)) (length (take (s .operations) xs)) ≡ sizes-ok s (length os) (length xs)
-sizes-ok-cut s os xs =
-    let a : leb (s .operations) (min (s .operations) (length os)) ≡ leb (s .operations) (length os) = grind (arith, tells) in
-    let b : leb (s .operations) (min (s .operations) (length xs)) ≡ leb (s .operations) (length xs) = grind (arith, tells) in
-    rw (length-take (s .operations) os, length-take (s .operations) xs, a, b)
+module _ (s : Sizes) (os xs : List ℕ) where
+  cut-length : (ys : List ℕ) → eqb (length (take (s .operations) ys)) (s .operations) ≡ leb (s .operations) (length ys)
+  cut-length ys = rw (length-take (s .operations) ys) (grind (arith, tells))
+
+  pub sizes-ok-cut : sizes-ok (code-of s os xs) ≡ lent-ok s (length os) (length xs)
+  sizes-ok-cut = ap₂ (λ a b. limits-ok s && (a && b)) (cut-length os) (cut-length xs)
 
 -- The first n entries of lent arrays, under names of their own: their check is the check of the lent code.
-module _ (s : Sizes) (os xs : List ℕ) {bytes numbers : List ℕ} (front : bytes ≡ take (s .operations) os) (beside : numbers ≡ take (s .operations) xs) (good : sizes-ok s (length os) (length xs) ≡ true) where
+module _ (s : Sizes) (os xs : List ℕ) {bytes numbers : List ℕ} (front : bytes ≡ take (s .operations) os) (beside : numbers ≡ take (s .operations) xs) where
   pub cut-code : _≡_ {A = Code} (record { sizes = s; operations = bytes; operands = numbers }) (code-of s os xs)
   cut-code = cc
 
-  pub check-cut : check-from (record { sizes = s; operations = bytes; operands = numbers }) bytes 0 0 ≡ check (code-of s os xs)
-  check-cut = ap (λ (c : Code). check-from c (c .operations) 0 0) cut-code ∙ sym (check-good-sizes (code-of s os xs) (sizes-ok-cut s os xs ∙ good))
+  pub check-cut : lent-ok s (length os) (length xs) ≡ true → check-from (record { sizes = s; operations = bytes; operands = numbers }) bytes 0 0 ≡ check (code-of s os xs)
+  check-cut good = ap (λ (c : Code). check-from c (c .operations) 0 0) cut-code ∙ sym (check-good-sizes (code-of s os xs) (sizes-ok-cut s os xs ∙ good))

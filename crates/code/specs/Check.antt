@@ -29,11 +29,18 @@ abbrev pub passed : Verdict → Bool
 passed passes = true
 passed (refused k i) = false
 
--- 21: the sizes are within their limits, and the lists have an entry for each operation.
-abbrev pub sizes-ok : Sizes → ℕ → ℕ → Bool
-sizes-ok s a b =
-    leb 1 (s .operations) && (leb (s .operations) 4096 && (leb (s .named) (s .cells) && (leb (s .cells) 2048 && (leb (s .depth) 256
-    && (leb (s .operations) a && leb (s .operations) b)))))
+-- 21: the sizes are within their limits, and there is an entry for each operation in both arrays that are lent;
+-- code has just these entries.
+abbrev pub limits-ok : Sizes → Bool
+limits-ok s =
+    leb 1 (s .operations) && (leb (s .operations) 4096 && (leb (s .named) (s .cells) && (leb (s .cells) 2048 && leb (s .depth) 256)))
+
+abbrev pub lent-ok : Sizes → ℕ → ℕ → Bool
+lent-ok s a b = limits-ok s && (leb (s .operations) a && leb (s .operations) b)
+
+abbrev pub sizes-ok : Code → Bool
+sizes-ok c =
+    limits-ok (c .sizes) && (eqb (length (c .operations)) (c .sizes .operations) && eqb (length (c .operands)) (c .sizes .operations))
 
 -- 23: the operand keeps its rule.
 abbrev pub operand-ok : Sizes → Operand → ℕ → Bool
@@ -165,5 +172,4 @@ check-from c (b ∷ bs) i d =
     [ goes-on e ↦ check-from c bs (i + 1) e | breaks k ↦ refused k (Some i) ]
 
 unfoldable pub check : Code → Verdict
-check c =
-    cond (sizes-ok (c .sizes) (length (c .operations)) (length (c .operands))) (check-from c (c .operations) 0 0) (refused 21 None)
+check c = cond (sizes-ok c) (check-from c (c .operations) 0 0) (refused 21 None)

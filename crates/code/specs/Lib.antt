@@ -4,3 +4,4 @@ pub mod CheckedCode
 pub mod Codes
 pub mod Descriptors
 pub mod Operations
+pub mod WellFormed

@@ -6,7 +6,7 @@ ghost use Rattle.std.specs.declared.option.Option.the-variants.{Some};
 ghost use Rattle.code.specs.Answers.{ruling-of, told-at, verdict-of};
 ghost use Rattle.code.specs.Operations.{operation};
 ghost use lib.ListN.{length};
-ghost use Rattle.code.specs.Check.{check as verdict, check-from, closed, closes, depth-ok, is-jump-table, leading-jumps, last-ok, may-land, opens, operand-ok, place-ok, ruling, sizes-ok, target-ok};
+ghost use Rattle.code.specs.Check.{check as verdict, check-from, closed, closes, depth-ok, is-jump-table, leading-jumps, last-ok, lent-ok, may-land, opens, operand-ok, place-ok, ruling, target-ok};
 ghost use Rattle.code.specs.CheckedCode.{code-in};
 ghost use Rattle.code.specs.Codes.{code-of, role-at};
 use crate::checked::Checked;
@@ -19,8 +19,8 @@ use crate::refusals::Refusal;
 use crate::sizes::Sizes;
 
 // 21: the sizes, over arrays of these lengths.
-pub(crate) fn are_sizes_ok(sizes: Sizes, operations: usize, operands: usize) -> bool
-    ensures { λ r. ⌜ r ≡ sizes-ok sizes operations operands ⌝ }
+pub(crate) fn are_lent_sizes_ok(sizes: Sizes, operations: usize, operands: usize) -> bool
+    ensures { λ r. ⌜ r ≡ lent-ok sizes operations operands ⌝ }
 {
     let count = sizes.operations as usize;
     sizes.operations >= 1
@@ -209,7 +209,7 @@ pub fn check<'a>(
     ensures answer { λ r. ⌜ verdict-of r ≡ verdict (code-of sizes (now (operations .entry)) (now (operands .entry))) ⌝ }
     ensures after { λ r. ⌜ Cases r (λ _. code-in (now (place .exit)) ≡ code-of sizes (now (operations .entry)) (now (operands .entry))) (λ _. now (place .exit) ≡ now (place .entry)) ⌝ }
 {
-    if !are_sizes_ok(sizes, operations.len(), operands.len()) {
+    if !are_lent_sizes_ok(sizes, operations.len(), operands.len()) {
         return Err(Refusal::BadSizes);
     }
     let count = sizes.operations as usize;

@@ -2,6 +2,7 @@
 pub mod check;
 pub mod checked;
 pub mod descriptor;
+pub mod laws;
 pub mod operations;
 pub mod refusals;
 pub mod sizes;

@@ -5,29 +5,29 @@ use Rattle.code.specs.Codes.{Code, code-of}
 use Rattle.code.proofs.Verdicts.{check-bad-sizes, check-cut, cut-code, sizes-ok-cut}
 use Rattle.code.proofs.check.check.Needs as need
 
-pub returns-then-not-are-sizes-ok : need.returns-then-not-are-sizes-ok
-returns-then-not-are-sizes-ok c =
+pub returns-then-not-are-lent-sizes-ok : need.returns-then-not-are-lent-sizes-ok
+returns-then-not-are-lent-sizes-ok c =
     let code = code-of (c .args .sizes) (c .args .operations .now) (c .args .operands .now) in
-    let bad = sizes-ok-cut (c .args .sizes) (c .args .operations .now) (c .args .operands .now) ∙ sym (c .are-sizes-ok .ensures) ∙ c .if-not-are-sizes-ok .taken in
+    let bad = sizes-ok-cut (c .args .sizes) (c .args .operations .now) (c .args .operands .now) ∙ sym (c .are-lent-sizes-ok .ensures) ∙ c .if-not-are-lent-sizes-ok .taken in
     record { answer = sym (check-bad-sizes code bad); after = refl }
 
 pub returns-in-Break-check-operations : need.returns-in-Break-check-operations
 returns-in-Break-check-operations c =
-    let good = sym (c .are-sizes-ok .ensures) ∙ c .if-not-are-sizes-ok .left in
+    let good = sym (c .are-lent-sizes-ok .ensures) ∙ c .if-not-are-lent-sizes-ok .left in
     let whole = check-cut (c .args .sizes) (c .args .operations .now) (c .args .operands .now) (c .split-at .ensures .front) (c .split-at-2 .ensures .front) good in
     let p = err-from-errBy (c .from-residual .result) (c .from-residual .ensures .1) in
     rw (p .1, p .2) (record { answer = c .in-Break-check-operations .ensures tt ∙ whole; after = refl })
 
 pub ghost-place : need.ghost-place
 ghost-place c =
-    let good = sym (c .are-sizes-ok .ensures) ∙ c .if-not-are-sizes-ok .left in
+    let good = sym (c .are-lent-sizes-ok .ensures) ∙ c .if-not-are-lent-sizes-ok .left in
     let whole = check-cut (c .args .sizes) (c .args .operations .now) (c .args .operands .now) (c .split-at .ensures .front) (c .split-at-2 .ensures .front) good in
-    let same = cut-code (c .args .sizes) (c .args .operations .now) (c .args .operands .now) (c .split-at .ensures .front) (c .split-at-2 .ensures .front) good in
+    let same = cut-code (c .args .sizes) (c .args .operations .now) (c .args .operands .now) (c .split-at .ensures .front) (c .split-at-2 .ensures .front) in
     (ap (λ code. passed (check code)) same ∙ ap passed (sym (c .in-Continue-check-operations .ensures tt ∙ whole)), tt)
 
 pub returns : need.returns
 returns c =
-    let good = sym (c .are-sizes-ok .ensures) ∙ c .if-not-are-sizes-ok .left in
+    let good = sym (c .are-lent-sizes-ok .ensures) ∙ c .if-not-are-lent-sizes-ok .left in
     let whole = check-cut (c .args .sizes) (c .args .operations .now) (c .args .operands .now) (c .split-at .ensures .front) (c .split-at-2 .ensures .front) good in
-    let same = cut-code (c .args .sizes) (c .args .operations .now) (c .args .operands .now) (c .split-at .ensures .front) (c .split-at-2 .ensures .front) good in
+    let same = cut-code (c .args .sizes) (c .args .operations .now) (c .args .operands .now) (c .split-at .ensures .front) (c .split-at-2 .ensures .front) in
     record { answer = c .in-Continue-check-operations .ensures tt ∙ whole; after = same }
