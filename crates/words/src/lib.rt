@@ -1,3 +1,6 @@
 // The words of a text: a pure reader from bytes to tokens that knows nothing of the grammar.
 
+mod bytes;
+pub mod refusal;
 pub mod token;
+pub mod word;

@@ -61,3 +61,15 @@ pub enum Keyword {
     Not,
     Eqv,
 }
+
+// What a word is. A name's bytes stay in the text: the record has how many there are.
+#[derive(Clone, Copy)]
+pub enum Token {
+    Name(usize),
+    Number(u32),
+    Keyword(Keyword),
+    Mark(Mark),
+    Sign(Sign),
+    Scaling(Scaling),
+    Relation(Relation),
+}
