@@ -1,2 +1,5 @@
 pub mod Comparison
 pub mod Digits
+pub mod Tables
+pub mod OneWord
+pub mod NextWord

@@ -19,7 +19,7 @@ exactly [] s otherwise = otherwise
 exactly (f ∷ fs) s otherwise = cond (same s (f .bytes)) (f .token) (exactly fs s otherwise)
 
 -- A letter and the letters and digits after it are a reserved word or a name.
-abbrev pub name-token : List ℕ → Token
+unfoldable pub name-token : List ℕ → Token
 name-token s = exactly reserved-words s (name s)
 
 -- What begins at some bytes: a token of so many bytes, or nothing.
@@ -32,13 +32,24 @@ abbrev pub first-of : List Fixed → List ℕ → Found → Found
 first-of [] bs otherwise = otherwise
 first-of (f ∷ fs) bs otherwise = cond (begins (f .bytes) bs) (found (f .token) (length (f .bytes))) (first-of fs bs otherwise)
 
--- The longest word that begins there, however long. In the table of marks those of two bytes come first.
+-- The longest mark that begins there: in the table those of two bytes come first.
+unfoldable pub mark-at : List ℕ → Found
+mark-at bs = first-of marks bs nothing
+
+-- A letter and the letters and digits after it; a digit and the digits after it.
+abbrev pub name-at : List ℕ → Found
+name-at bs = found (name-token (take (leading asciiAlnum bs) bs)) (leading asciiAlnum bs)
+
+abbrev pub number-at : List ℕ → Found
+number-at bs = found (number (value-of (take (leading asciiDigit bs) bs))) (leading asciiDigit bs)
+
+-- The longest word that begins there, however long.
 abbrev pub longest-at : List ℕ → Found
 longest-at [] = nothing
 longest-at (b ∷ bs) =
-    cond (asciiLetter b) (found (name-token (take (leading asciiAlnum (b ∷ bs)) (b ∷ bs))) (leading asciiAlnum (b ∷ bs)))
-    (cond (asciiDigit b) (found (number (value-of (take (leading asciiDigit (b ∷ bs)) (b ∷ bs)))) (leading asciiDigit (b ∷ bs)))
-    (first-of marks (b ∷ bs) nothing))
+    cond (asciiLetter b) (name-at (b ∷ bs))
+    (cond (asciiDigit b) (number-at (b ∷ bs))
+    (mark-at (b ∷ bs)))
 
 -- Is a token of so many bytes short enough? A fixed word always is.
 abbrev pub short : Token → ℕ → Bool
