@@ -3,3 +3,4 @@ pub mod Digits
 pub mod Tables
 pub mod OneWord
 pub mod NextWord
+pub mod WordByWord

@@ -110,5 +110,5 @@ words-from zero p bs = no-more (next-of p bs)
 words-from (suc left) p bs = one-more (next-of p bs) (λ q rest. words-from left q rest)
 
 -- The words of a whole text: at most 8,192 bytes and 500 words.
-abbrev pub words-of : List ℕ → Words
+unfoldable pub words-of : List ℕ → Words
 words-of text = cond (ltb 8192 (length text)) (refused TextTooLong 8192) (words-from 500 0 text)

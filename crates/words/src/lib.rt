@@ -4,5 +4,6 @@ mod bytes;
 mod fixed;
 pub mod reader;
 pub mod refusal;
+pub mod table;
 pub mod token;
 pub mod word;
