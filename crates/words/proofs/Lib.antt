@@ -4,3 +4,6 @@ pub mod Tables
 pub mod OneWord
 pub mod NextWord
 pub mod WordByWord
+pub mod Spelled
+pub mod LongestWord
+pub mod ReadingLaw

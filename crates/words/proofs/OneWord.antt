@@ -20,7 +20,8 @@ use Rattle.std.proofs.shelf.Tests.{lt-leb, le-leb, cond-both, ne-eqb}
 use Rattle.std.proofs.shelf.Sums.{leading-drop-yes, leading-drop-no, leading-drop-all, leading-le-length}
 use Rattle.std.proofs.shelf.Ways.{tells}
 use Rattle.words.specs.Token.{Token, Word, name, number, keyword}
-use Rattle.words.specs.Spelling.{Fixed, two-byte-marks, one-byte-marks, reserved-words, blank, same, Made-of, not-semicolon, value-of}
+use Rattle.words.specs.Spelling.{Fixed, two-byte-marks, one-byte-marks, reserved-words, blank, Made-of, not-semicolon, value-of}
+use Rattle.std.specs.shelf.Text.{sameBytes}
 use Rattle.words.specs.Words.{Found, found, nothing, exactly, first-of, mark-at, name-at, number-at, name-token, short, skipped, word-at, Next, next-word, next-refused, next-of, end, longest-at}
 use Rattle.words.specs.Records.{token-in, next-in, mark-or, keyword-or, Is-mark}
 use Rattle.words.specs.declared.token.Token.{Token as TokenRecord}
@@ -105,7 +106,7 @@ with-fact (Some m) P Q h q = (h, q)
 -- What a choice from a table keeps: a property of every entry's token and of the token given.
 exactly-keeps : (P : Token → Type 0) (s : List ℕ) (o : Token) → P o → (fs : List Fixed) → All (λ f. P (f .token)) fs → P (exactly fs s o)
 exactly-keeps P s o h [] a = h
-exactly-keeps P s o h (f ∷ fs) a = cond-both (same s (f .bytes)) (f .token) (exactly fs s o) P (λ e. a .0) (λ e. exactly-keeps P s o h fs (a .1))
+exactly-keeps P s o h (f ∷ fs) a = cond-both (sameBytes s (f .bytes)) (f .token) (exactly fs s o) P (λ e. a .0) (λ e. exactly-keeps P s o h fs (a .1))
 
 -- A name or reserved word is short up to 16 bytes, and too long beyond.
 pub name-short : (s : List ℕ) (n : ℕ) → n ≤ 16 → short (name-token s) n ≡ true

@@ -9,7 +9,8 @@ use lib.ListN.{length}
 use Rattle.std.specs.shelf.Lists.{All}
 use Rattle.std.proofs.shelf.Tests.{and-parts, leb-true, cond-both}
 use Rattle.words.specs.Token.{Token}
-use Rattle.words.specs.Spelling.{Fixed, reserved-words, two-byte-marks, begins, same}
+use Rattle.words.specs.Spelling.{Fixed, reserved-words, two-byte-marks, begins}
+use Rattle.std.specs.shelf.Text.{sameBytes}
 use Rattle.words.specs.Words.{Found, exactly, first-of}
 use Rattle.words.proofs.Comparison.{lengths-differ→not-same}
 
@@ -26,7 +27,7 @@ every→all p (f ∷ fs) e = let h = and-parts (p f) (every p fs) e in (h .0, ev
 pub longer→not-in-table : (n : ℕ) (s : List ℕ) (o : Token) → n < length s → (fs : List Fixed) → All (λ f. leb (length (f .bytes)) n ≡ true) fs → exactly fs s o ≡ o
 longer→not-in-table n s o lt [] a = refl
 longer→not-in-table n s o lt (f ∷ fs) a =
-    let d : same s (f .bytes) ≡ false = lengths-differ→not-same s (f .bytes) (λ e. omega (arith, e, leb-true (length (f .bytes)) n (a .0))) in
+    let d : sameBytes s (f .bytes) ≡ false = lengths-differ→not-same s (f .bytes) (λ e. omega (arith, e, leb-true (length (f .bytes)) n (a .0))) in
     rw d (longer→not-in-table n s o lt fs (a .1))
 
 pub longer-than-16→not-reserved : (s : List ℕ) (o : Token) → 16 < length s → exactly reserved-words s o ≡ o

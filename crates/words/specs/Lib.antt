@@ -4,3 +4,4 @@ pub mod Spelling
 pub mod Classes
 pub mod Words
 pub mod Records
+pub mod Reading

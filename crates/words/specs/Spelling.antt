@@ -70,13 +70,7 @@ not-semicolon b = not (eqb b 59)
 abbrev pub Made-of : (ℕ → Bool) → List ℕ → Type 0
 Made-of p s = All (λ b. p b ≡ true) s
 
--- Are the two the same bytes? Do the first begin the second?
-abbrev pub same : List ℕ → List ℕ → Bool
-same [] [] = true
-same [] (y ∷ ys) = false
-same (x ∷ xs) [] = false
-same (x ∷ xs) (y ∷ ys) = cond (eqb x y) (same xs ys) false
-
+-- Do the first bytes begin the second?
 abbrev pub begins : List ℕ → List ℕ → Bool
 begins [] bs = true
 begins (x ∷ xs) [] = false

@@ -7,16 +7,17 @@ use lib.Chars.{codes}
 use lib.Dec.{leb, ltb}
 use lib.ListN.{length, drop, take}
 use Rattle.std.specs.shelf.Lists.{leading}
+use Rattle.std.specs.shelf.Text.{sameBytes}
 use Rattle.std.specs.Text.{asciiDigit, asciiAlnum, asciiLetter}
 use Rattle.words.specs.Token.{Token, Word, name, number, keyword, mark, sign, scaling, relation}
-use Rattle.words.specs.Spelling.{Fixed, reserved-words, marks, blank, not-semicolon, same, begins, value-of}
+use Rattle.words.specs.Spelling.{Fixed, reserved-words, marks, blank, not-semicolon, begins, value-of}
 use Rattle.words.specs.declared.refusal.WordRefusal.{WordRefusal}
 use Rattle.words.specs.declared.refusal.WordRefusal.the-variants.{TextTooLong, NoWord, WordTooLong, TooManyWords}
 
 -- The token of the fixed word that is exactly these bytes, else the token given.
 abbrev pub exactly : List Fixed → List ℕ → Token → Token
 exactly [] s otherwise = otherwise
-exactly (f ∷ fs) s otherwise = cond (same s (f .bytes)) (f .token) (exactly fs s otherwise)
+exactly (f ∷ fs) s otherwise = cond (sameBytes s (f .bytes)) (f .token) (exactly fs s otherwise)
 
 -- A letter and the letters and digits after it are a reserved word or a name.
 unfoldable pub name-token : List ℕ → Token
@@ -63,7 +64,7 @@ short (relation r) n = true
 
 -- How many of the bytes after the word s it skips: `comment` skips those before the next semicolon or the end.
 abbrev pub skipped : List ℕ → List ℕ → ℕ
-skipped s rest = cond (same s (codes "comment")) (leading not-semicolon rest) 0
+skipped s rest = cond (sameBytes s (codes "comment")) (leading not-semicolon rest) 0
 
 -- What comes next: the end, a word with the place and the bytes after it and what it skips, or a refusal.
 pub data Next : Type 0 where

@@ -4,7 +4,8 @@ ghost use mathlib.Core.Path.{_≡_};
 ghost use Prim.Native.Nat.{ℕ, _+_, _≤_};
 ghost use lib.ListN.{length, drop};
 ghost use Rattle.std.specs.shelf.Lists.{leading};
-ghost use Rattle.words.specs.Spelling.{same, value-of, Made-of};
+ghost use Rattle.words.specs.Spelling.{value-of, Made-of};
+ghost use Rattle.std.specs.shelf.Text.{sameBytes};
 ghost use Rattle.std.specs.Text.{asciiDigit};
 ghost use Rattle.words.specs.Classes.{in-class};
 
@@ -44,7 +45,7 @@ pub fn run(text: &[u8], from: usize, class: Class) -> usize
 
 // Are the two the same bytes?
 pub fn equal(a: &[u8], b: &[u8]) -> bool
-    ensures { λ r. ⌜ r ≡ same (now (a .entry)) (now (b .entry)) ⌝ }
+    ensures { λ r. ⌜ r ≡ sameBytes (now (a .entry)) (now (b .entry)) ⌝ }
 {
     if a.len() != b.len() {
         return false;

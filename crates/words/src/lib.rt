@@ -2,6 +2,7 @@
 
 mod bytes;
 mod fixed;
+pub mod law;
 pub mod reader;
 pub mod refusal;
 pub mod table;

@@ -1,0 +1,10 @@
+// Theorems about the words of a text, each proved as the contract of a function that does nothing.
+
+ghost use Rattle.words.specs.Reading.{Reading-law};
+
+// The rules give every text one result, the one that is computed.
+pub fn reading_law_holds() -> u8
+    ensures { λ _. ⌜ Reading-law ⌝ }
+{
+    0
+}
