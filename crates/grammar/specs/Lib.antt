@@ -1,0 +1,5 @@
+pub mod Tree
+pub mod Classes
+pub mod Grammar
+pub mod Parser
+pub mod Examples

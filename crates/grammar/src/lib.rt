@@ -1,0 +1,4 @@
+// The grammar of the language: its syntax trees, its sentences and their defined reading.
+
+pub mod operator;
+pub mod theorems;

@@ -1,0 +1,15 @@
+// What is proved of the grammar and of the defined reading.
+
+ghost use Rattle.grammar.specs.Examples.{Ranks, Repetition, Early-end, Impossible-word, Too-deep, Closed-levels};
+
+// A few texts, read by the definitions.
+pub fn examples() -> u8
+    ensures ranks { λ _. ⌜ Ranks ⌝ }
+    ensures repetition { λ _. ⌜ Repetition ⌝ }
+    ensures early_end { λ _. ⌜ Early-end ⌝ }
+    ensures impossible_word { λ _. ⌜ Impossible-word ⌝ }
+    ensures too_deep { λ _. ⌜ Too-deep ⌝ }
+    ensures closed_levels { λ _. ⌜ Closed-levels ⌝ }
+{
+    0
+}
