@@ -3,3 +3,4 @@ pub mod Classes
 pub mod Grammar
 pub mod Parser
 pub mod Examples
+pub mod Meaning

@@ -10,7 +10,9 @@ use Rattle.words.specs.declared.token.Sign.the-variants.{Plus}
 use Rattle.words.specs.declared.token.Mark.the-variants.{Semicolon, Colon, Becomes, Into, Comma, OpenRound, CloseRound, OpenSquare, CloseSquare}
 use Rattle.words.specs.declared.token.Keyword.the-variants.{Begin, End, If, For, Go, To, Switch, Integer, Boolean, Array, Comment, In, Print, Stop}
 use Rattle.words.specs.Token.{Token, Word}
-use Rattle.grammar.specs.Tree.{Row, one, more, Name, Exp, literal, prefixed, joined, bracketed, compared, whole, indexed, value-of, single, progression, labelled, conditional, repeated, assigned, go, switched, input, printed, stop, block, comment, integer, boolean, array, switch, action, Program}
+use Rattle.grammar.specs.declared.operator.Operator.{Operator}
+use Rattle.grammar.specs.declared.operator.Prefix.{Prefix}
+use Rattle.grammar.specs.Tree.{Row, one, more, Name, Exp, Element, Item, literal, prefixed, joined, bracketed, compared, whole, indexed, value-of, single, progression, labelled, conditional, repeated, assigned, go, switched, input, printed, stop, block, comment, integer, boolean, array, switch, action, Program}
 use Rattle.grammar.specs.Classes.{rank, prefix-rank, operand-rank, Class, the-mark, the-keyword, a-name, a-number, a-sign, a-relation, a-prefix, an-operator, Content, found, opens, levels-after}
 use Rattle.grammar.specs.Grammar.{Part, ranked, factor, variable, identifier, bound, group, element, statement, item, exp, Phrase, a, row, program, separator, Tree, Value}
 
@@ -42,46 +44,98 @@ variable-script = word a-name λ n p.
     either (the-mark OpenSquare) (λ _ _. part (begin (a exp)) λ i. word (the-mark CloseSquare) λ _ _. done (indexed (named n p) i))
     (done (whole (named n p)))
 
+-- factor: behind `(`, with its place; behind the first expression of a bracket.
+abbrev pub variable-factor : Value (a variable) → Script (a factor)
+variable-factor v = done (value-of v)
+
+abbrev pub comparison-script : ℕ → Exp → Content a-relation → Script (a factor)
+comparison-script p x q = part (begin (a exp)) λ y. word (the-mark CloseRound) λ _ _. done (compared q p x y)
+
+abbrev pub bracket-rest : ℕ → Value (a exp) → Script (a factor)
+bracket-rest p x = either a-relation (λ q _. comparison-script p x q) (word (the-mark CloseRound) λ _ _. done (bracketed p x))
+
+abbrev pub bracket-script : ℕ → Script (a factor)
+bracket-script p = part (begin (a exp)) (bracket-rest p)
+
 abbrev pub factor-script : Script (a factor)
 factor-script =
-    either (the-mark OpenRound) (λ _ p. part (begin (a exp)) λ x.
-    either a-relation (λ q _. part (begin (a exp)) λ y. word (the-mark CloseRound) λ _ _. done (compared q p x y))
-    (word (the-mark CloseRound) λ _ _. done (bracketed p x)))
+    either (the-mark OpenRound) (λ _ p. bracket-script p)
     (either a-number (λ n p. done (literal n p))
-    (within variable-script λ v. done (value-of v)))
+    (within variable-script variable-factor))
+
+-- An expression of rank r: behind an operator before its operand, behind its first factor, behind an operator.
+abbrev pub prefix-script : (r : ℕ) → ℕ → Prefix → Script (a (ranked r))
+prefix-script r p o = part (begin (a (ranked (operand-rank o)))) λ x. goto (operators r (prefix-rank o) (prefixed o p x))
+
+abbrev pub behind-factor : (r : ℕ) → Value (a factor) → Script (a (ranked r))
+behind-factor r x = goto (operators r 7 x)
 
 abbrev pub ranked-script : (r : ℕ) → Script (a (ranked r))
-ranked-script r =
-    either (a-prefix r) (λ o p. part (begin (a (ranked (operand-rank o)))) λ x. goto (operators r (prefix-rank o) (prefixed o p x)))
-    (within factor-script λ x. goto (operators r 7 x))
+ranked-script r = either (a-prefix r) (λ o p. prefix-script r p o) (within factor-script (behind-factor r))
+
+abbrev pub operator-script : (r : ℕ) → Exp → Operator → Script (a (ranked r))
+operator-script r x o = part (begin (a (ranked (suc (rank o))))) λ y. goto (operators r (rank o) (joined o x y))
 
 abbrev pub operators-script : (r q : ℕ) → Exp → Script (a (ranked r))
-operators-script r q x =
-    either (an-operator r q) (λ o _. part (begin (a (ranked (suc (rank o))))) λ y. goto (operators r (rank o) (joined o x y)))
-    (done x)
+operators-script r q x = either (an-operator r q) (λ o _. operator-script r x o) (done x)
+
+-- element: behind its first expression.
+abbrev pub progression-script : Exp → Script (a element)
+progression-script x = part (begin (a exp)) λ y. word (the-mark CloseRound) λ _ _. part (begin (a exp)) λ z. done (progression x y z)
+
+abbrev pub element-rest : Value (a exp) → Script (a element)
+element-rest x = either (the-mark OpenRound) (λ _ _. progression-script x) (done (single x))
 
 abbrev pub element-script : Script (a element)
-element-script = within (ranked-script 1) λ x.
-    either (the-mark OpenRound) (λ _ _. part (begin (a exp)) λ y. word (the-mark CloseRound) λ _ _. part (begin (a exp)) λ z. done (progression x y z))
-    (done (single x))
+element-script = within (ranked-script 1) element-rest
+
+-- Statements, each behind its first word, whose place is p.
+abbrev pub conditional-script : ℕ → Script (a statement)
+conditional-script p = part (begin (a exp)) λ x. word (the-mark Semicolon) λ _ _. part (begin (a statement)) λ s. done (conditional p x s)
+
+abbrev pub repetition-body : ℕ → Name → Row Element → Script (a statement)
+repetition-body p x es = word (the-mark Semicolon) λ _ _. part (begin (a statement)) λ s. done (repeated p x es s)
+
+abbrev pub repetition-script : ℕ → Script (a statement)
+repetition-script p = word a-name λ n q. word (the-mark Becomes) λ _ _. part (begin (row element)) (repetition-body p (named n q))
+
+abbrev pub block-script : Script (a statement)
+block-script = part (begin (row statement)) λ ss. word (the-keyword End) λ _ _. done (block ss)
+
+abbrev pub jump-rest : ℕ → Name → Script (a statement)
+jump-rest p x =
+    either (the-mark OpenSquare) (λ _ _. part (begin (a exp)) λ i. word (the-mark CloseSquare) λ _ _. done (switched p x i))
+    (done (go p x))
+
+abbrev pub jump-script : ℕ → Script (a statement)
+jump-script p = word (the-keyword To) λ _ _. word a-name λ n q. jump-rest p (named n q)
+
+abbrev pub input-script : ℕ → Script (a statement)
+input-script p = word (the-mark Into) λ _ _. word (the-mark OpenRound) λ _ _. part (begin (a variable)) λ v. word (the-mark CloseRound) λ _ _. done (input p v)
+
+abbrev pub print-script : ℕ → Script (a statement)
+print-script p = word (the-mark OpenRound) λ _ _. part (begin (row exp)) λ xs. word (the-mark CloseRound) λ _ _. done (printed p xs)
+
+-- Behind a name: a label, or what is assigned.
+abbrev pub indexed-assignment : Name → Script (a statement)
+indexed-assignment x = part (begin (a exp)) λ i. word (the-mark CloseSquare) λ _ _. word (the-mark Becomes) λ _ _.
+    part (begin (a exp)) λ y. done (assigned (indexed x i) y)
+
+abbrev pub named-script : Name → Script (a statement)
+named-script x =
+    either (the-mark Colon) (λ _ _. part (begin (a statement)) λ s. done (labelled x s))
+    (either (the-mark Becomes) (λ _ _. part (begin (a exp)) λ y. done (assigned (whole x) y))
+    (word (the-mark OpenSquare) λ _ _. indexed-assignment x))
 
 abbrev pub statement-script : Script (a statement)
 statement-script =
-    either (the-keyword If) (λ _ p. part (begin (a exp)) λ x. word (the-mark Semicolon) λ _ _. part (begin (a statement)) λ s. done (conditional p x s))
-    (either (the-keyword For) (λ _ p. word a-name λ n q. word (the-mark Becomes) λ _ _. part (begin (row element)) λ es.
-    word (the-mark Semicolon) λ _ _. part (begin (a statement)) λ s. done (repeated p (named n q) es s))
-    (either (the-keyword Begin) (λ _ _. part (begin (row statement)) λ ss. word (the-keyword End) λ _ _. done (block ss))
-    (either (the-keyword Go) (λ _ p. word (the-keyword To) λ _ _. word a-name λ n q.
-    either (the-mark OpenSquare) (λ _ _. part (begin (a exp)) λ i. word (the-mark CloseSquare) λ _ _. done (switched p (named n q) i))
-    (done (go p (named n q))))
-    (either (the-keyword In) (λ _ p. word (the-mark Into) λ _ _. word (the-mark OpenRound) λ _ _. part (begin (a variable)) λ v.
-    word (the-mark CloseRound) λ _ _. done (input p v))
-    (either (the-keyword Print) (λ _ p. word (the-mark OpenRound) λ _ _. part (begin (row exp)) λ xs. word (the-mark CloseRound) λ _ _. done (printed p xs))
-    (either a-name (λ n p.
-    either (the-mark Colon) (λ _ _. part (begin (a statement)) λ s. done (labelled (named n p) s))
-    (either (the-mark Becomes) (λ _ _. part (begin (a exp)) λ x. done (assigned (whole (named n p)) x))
-    (word (the-mark OpenSquare) λ _ _. part (begin (a exp)) λ i. word (the-mark CloseSquare) λ _ _. word (the-mark Becomes) λ _ _.
-    part (begin (a exp)) λ x. done (assigned (indexed (named n p) i) x))))
+    either (the-keyword If) (λ _ p. conditional-script p)
+    (either (the-keyword For) (λ _ p. repetition-script p)
+    (either (the-keyword Begin) (λ _ p. block-script)
+    (either (the-keyword Go) (λ _ p. jump-script p)
+    (either (the-keyword In) (λ _ p. input-script p)
+    (either (the-keyword Print) (λ _ p. print-script p)
+    (either a-name (λ n p. named-script (named n p))
     (word (the-keyword Stop) λ _ p. done (stop p))))))))
 
 abbrev pub bound-script : Script (a bound)
@@ -89,20 +143,42 @@ bound-script =
     either a-sign (λ s _. word a-number λ n _. done (record { sign = s; size = n }))
     (word a-number λ n _. done (record { sign = Plus; size = n }))
 
-abbrev pub group-script : Script (a group)
-group-script = within (within {p = row identifier} name-script λ x. goto (rest identifier (one x))) λ xs.
-    word (the-mark OpenSquare) λ _ p. part (begin (a bound)) λ x. word (the-mark Colon) λ _ _. part (begin (a bound)) λ y.
+-- A row: behind its first part.
+abbrev pub row-rest : (p : Part) → Value (a p) → Script (row p)
+row-rest p t = goto (rest p (one t))
+
+-- group: behind its names, and behind the `[` of its bounds.
+abbrev pub bounds-script : Row Name → ℕ → Script (a group)
+bounds-script xs p = part (begin (a bound)) λ x. word (the-mark Colon) λ _ _. part (begin (a bound)) λ y.
     word (the-mark CloseSquare) λ _ _. done (record { names = xs; bracket = p; low = x; high = y })
+
+abbrev pub group-bounds : Value (row identifier) → Script (a group)
+group-bounds xs = word (the-mark OpenSquare) λ _ p. bounds-script xs p
+
+abbrev pub group-script : Script (a group)
+group-script = within (within name-script (row-rest identifier)) group-bounds
+
+-- Items, each behind its first word.
+abbrev pub names-script : (Row Name → Item) → Script (a item)
+names-script f = word (the-mark OpenRound) λ _ _. part (begin (row identifier)) λ xs. word (the-mark CloseRound) λ _ _. done (f xs)
+
+abbrev pub arrays-script : Script (a item)
+arrays-script = word (the-mark OpenRound) λ _ _. part (begin (row group)) λ gs. word (the-mark CloseRound) λ _ _. done (array gs)
+
+abbrev pub switch-script : Script (a item)
+switch-script = word a-name λ n p. word (the-mark Becomes) λ _ _. names-script (switch (named n p))
+
+abbrev pub statement-item : Value (a statement) → Script (a item)
+statement-item s = done (action s)
 
 abbrev pub item-script : Script (a item)
 item-script =
     either (the-keyword Comment) (λ _ _. done comment)
-    (either (the-keyword Integer) (λ _ _. word (the-mark OpenRound) λ _ _. part (begin (row identifier)) λ xs. word (the-mark CloseRound) λ _ _. done (integer xs))
-    (either (the-keyword Boolean) (λ _ _. word (the-mark OpenRound) λ _ _. part (begin (row identifier)) λ xs. word (the-mark CloseRound) λ _ _. done (boolean xs))
-    (either (the-keyword Array) (λ _ _. word (the-mark OpenRound) λ _ _. part (begin (row group)) λ gs. word (the-mark CloseRound) λ _ _. done (array gs))
-    (either (the-keyword Switch) (λ _ _. word a-name λ n p. word (the-mark Becomes) λ _ _. word (the-mark OpenRound) λ _ _.
-    part (begin (row identifier)) λ xs. word (the-mark CloseRound) λ _ _. done (switch (named n p) xs))
-    (within statement-script λ s. done (action s))))))
+    (either (the-keyword Integer) (λ _ _. names-script integer)
+    (either (the-keyword Boolean) (λ _ _. names-script boolean)
+    (either (the-keyword Array) (λ _ _. arrays-script)
+    (either (the-keyword Switch) (λ _ _. switch-script)
+    (within statement-script statement-item)))))
 
 abbrev pub part-script : (p : Part) → Script (a p)
 part-script (ranked r) = ranked-script r
@@ -117,7 +193,7 @@ part-script item = item-script
 
 abbrev pub phrase-script : (p : Phrase) → Script p
 phrase-script (a p) = part-script p
-phrase-script (row p) = within (part-script p) λ t. goto (rest p (one t))
+phrase-script (row p) = within (part-script p) (row-rest p)
 
 abbrev pub start : {p : Phrase} → Goal p → Script p
 start (begin p) = phrase-script p

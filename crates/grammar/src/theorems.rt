@@ -1,6 +1,7 @@
 // What is proved of the grammar and of the defined reading.
 
 ghost use Rattle.grammar.specs.Examples.{Ranks, Repetition, Early-end, Impossible-word, Too-deep, Closed-levels};
+ghost use Rattle.grammar.specs.Meaning.{Sound};
 
 // A few texts, read by the definitions.
 pub fn examples() -> u8
@@ -10,6 +11,13 @@ pub fn examples() -> u8
     ensures impossible_word { λ _. ⌜ Impossible-word ⌝ }
     ensures too_deep { λ _. ⌜ Too-deep ⌝ }
     ensures closed_levels { λ _. ⌜ Closed-levels ⌝ }
+{
+    0
+}
+
+// Every tree that is read derives from the words.
+pub fn reading_is_sound() -> u8
+    ensures { λ _. ⌜ Sound ⌝ }
 {
     0
 }
