@@ -3,14 +3,14 @@ use mathlib.Core.Bool.{Bool, true, false, cond}
 use mathlib.Core.List.{List, [], _∷_, _++_}
 use mathlib.Core.Path.{_≡_, refl, sym, _∙_, ap, subst}
 use Prim.Native.Nat.{ℕ, zero, suc, _+_, _-_, _≤_, _<_}
-use native.Mathlib.Nat.{le-of-suc-le-suc}
+use native.Mathlib.Nat.{le-refl}
 use native.Mathlib.Omega.{arith}
-use lib.ListN.{length, drop, take, length-drop}
-use Rattle.std.proofs.shelf.Lists.{drop-drop}
+use lib.ListN.{length, drop, take, length-drop, length-take}
+use Rattle.std.proofs.shelf.Lists.{drop-drop, take-append-drop}
 use Rattle.std.proofs.shelf.Tests.{cond-false, cond-true}
 use Rattle.rolls.specs.Contents.{Contents, first, first-of, rest, rest-of, took}
 use Rattle.rolls.proofs.Taking.{took-first}
-use Rattle.rolls.specs.Groups.{filtered, groups, groups-up-to, past, stayers, unless-left}
+use Rattle.rolls.specs.Groups.{Keeps, Parted, all-groups, filtered, full-group, groups, groups-up-to, last-group, no-groups, past, stayers}
 
 module _ {F : Type 0} where
   rest-of-is-drop : (xs : List F) → rest-of xs ≡ drop 1 xs
@@ -107,3 +107,44 @@ module _ {F : Type 0} where
             none zero = refl
             none (suc k) = refl
         by-list (x ∷ xs) = refl
+
+  -- The groups of a list are the list.
+  groups-are-all : (most g : ℕ) (xs : List F) → length xs ≤ most → all-groups (groups-up-to most (suc g) xs) ≡ xs
+  groups-are-all most g [] short = refl
+  groups-are-all zero g (x ∷ xs) short = absurd (omega arith)
+  groups-are-all (suc most) g (x ∷ xs) short =
+      let shorter = length-drop g xs in
+      ap (λ ys. (x ∷ take g xs) ++ ys) (groups-are-all most g (drop g xs) (omega arith))
+      ∙ ap (λ ys. x ∷ ys) (take-append-drop g xs)
+
+  -- Each group is full but for the last.
+  groups-parted : (most g : ℕ) (xs : List F) → length xs ≤ most → Parted (suc g) (groups-up-to most (suc g) xs)
+  groups-parted most g [] short = no-groups
+  groups-parted zero g (x ∷ xs) short = absurd (omega arith)
+  groups-parted (suc most) g (x ∷ xs) short =
+      let shorter = length-drop g xs in
+      by-rest most (drop g xs) refl (groups-parted most g (drop g xs) (omega arith))
+    where
+      by-rest : (most : ℕ) (rest : List F) → drop g xs ≡ rest → Parted (suc g) (groups-up-to most (suc g) rest) → Parted (suc g) ((x ∷ take g xs) ∷ groups-up-to most (suc g) rest)
+      by-rest most [] e later =
+          let size = length-take g xs in
+          last-group (omega arith) (omega arith)
+      by-rest zero (y ∷ ys) e later =
+          let size = length-take g xs in
+          last-group (omega arith) (omega arith)
+      by-rest (suc most) (y ∷ ys) e later =
+          let size = length-take g xs in
+          let left = length-drop g xs in
+          let some = ap length e in
+          full-group (omega arith) later
+
+  -- What the filter lets through, in the words of its rule.
+  pub keeps-stayers : (is-zero : F → Bool) (g : ℕ) → 1 ≤ g → (xs : List F) → Keeps is-zero g xs (stayers is-zero (groups g xs))
+  keeps-stayers is-zero zero some xs = absurd (omega arith)
+  keeps-stayers is-zero (suc g) some xs =
+      record {
+        parts = groups (suc g) xs;
+        are-all = groups-are-all (length xs) g xs (le-refl (length xs));
+        sizes = groups-parted (length xs) g xs (le-refl (length xs));
+        stay = refl;
+      }

@@ -2,6 +2,7 @@
 -- zero stands for someone who has left, and is dropped whole. The other groups are kept, in order.
 use mathlib.Core.Bool.{Bool, true, false, cond}
 use mathlib.Core.List.{List, [], _∷_, _++_}
+use mathlib.Core.Path.{_≡_}
 use Prim.Native.Nat.{ℕ, zero, suc, _-_, _≤_}
 use lib.ListN.{length, drop, take}
 use Rattle.std.specs.declared.result.Result.{Result}
@@ -38,6 +39,23 @@ module _ {F : Type 0} where
     ending = c .ending;
   }
 
+-- Groups in order: each has g figures, and only the last may have fewer, but not none.
+pub data Parted {F : Type 0} (g : ℕ) : List (List F) → Type 0 where
+  no-groups : Parted g []
+  last-group : {group : List F} → 1 ≤ length group → length group ≤ g → Parted g (group ∷ [])
+  full-group : {group next : List F} {groups : List (List F)} → length group ≡ g → Parted g (next ∷ groups) → Parted g (group ∷ (next ∷ groups))
+
+abbrev pub all-groups : {F : Type 0} → List (List F) → List F
+all-groups [] = []
+all-groups (group ∷ groups) = group ++ all-groups groups
+
+-- What the filter lets through is exactly the groups whose first figure is not zero, in order.
+pub record Keeps {F : Type 0} (is-zero : F → Bool) (g : ℕ) (all through : List F) : Type 0 where
+  pub parts : List (List F)
+  pub are-all : all-groups parts ≡ all
+  pub sizes : Parted g parts
+  pub stay : through ≡ stayers is-zero parts
+
 -- How many figures of its group are to follow a first figure that is handed over.
 abbrev pub left-after : {F E : Type 0} → ℕ → Result F E → ℕ
 left-after g (Ok x) = g - 1
@@ -50,3 +68,9 @@ past n c = record { figures = drop n (c .figures); ending = c .ending }
 -- Group sizes go from 1 to 64.
 abbrev pub Group-size : ℕ → Type 0
 Group-size g = (1 ≤ g) × (g ≤ 64)
+
+-- What a filter that is made over a roll holds.
+pub record Made-over {F : Type 0} (is-zero : F → Bool) (g : ℕ) (roll filter : Contents F) : Type 0 where
+  pub size : Group-size g
+  pub holds : filter ≡ kept is-zero g roll
+  pub keeps : Keeps is-zero g (roll .figures) (filter .figures)

@@ -6,3 +6,4 @@ pub mod Groups
 pub mod Filters
 pub mod Tallies
 pub mod Reading
+pub mod Cases

@@ -7,7 +7,7 @@ ghost use Rattle.figures.specs.Kinds.{stands-for-zero};
 ghost use Rattle.rolls.specs.Contents.{first as first-figure, rest};
 ghost use Rattle.rolls.specs.Endings.{taken};
 ghost use Rattle.rolls.specs.Filters.{number};
-ghost use Rattle.rolls.specs.Groups.{Group-size, filtered, kept, left-after, past};
+ghost use Rattle.rolls.specs.Groups.{Group-size, Made-over, filtered, left-after, past};
 ghost use Rattle.rolls.specs.declared.leavers.FilterRefusal.the-variants.{GroupSize};
 ghost use Rattle.std.specs.Results.{Cases};
 use crate::roll::Ending;
@@ -45,7 +45,7 @@ impl<R> FilterRefusal<R> {
 impl<R: Roll> LeaverFilter<R> {
     // The filter over a roll, with this group size.
     pub fn new(roll: R, group: usize) -> Result<LeaverFilter<R>, FilterRefusal<R>>
-        ensures made { λ r. ⌜ Cases r (λ f. Group-size group × (filtered (stands-for-zero (Figure·Figures .kind) (Figure·Figures .means)) (f .group) (f .left) (holds (f .roll)) ≡ kept (stands-for-zero (Figure·Figures .kind) (Figure·Figures .means)) group (holds roll))) (λ e. (Group-size group → ⊥) × (e ≡ GroupSize roll)) ⌝ }
+        ensures { λ r. ⌜ Cases r (λ f. Made-over (stands-for-zero (Figure·Figures .kind) (Figure·Figures .means)) group (holds roll) (filtered (stands-for-zero (Figure·Figures .kind) (Figure·Figures .means)) (f .group) (f .left) (holds (f .roll)))) (λ e. (Group-size group → ⊥) × (e ≡ GroupSize roll)) ⌝ }
     {
         if group < 1 || group > 64 {
             return Err(FilterRefusal::GroupSize(roll));
