@@ -51,37 +51,30 @@ module _ {F : Type 0} where
         ∙ ap (λ ys. ys ++ stayers is-zero (groups (suc g) (drop g xs))) (cond-true (is-zero x) [] (x ∷ take g xs) left)
 
   -- The filter at the start of a group, over a roll that hands over x.
-  module _ (is-zero : F → Bool) (group : ℕ) (positive : 1 ≤ group) (c : Contents F) (x : F) (given : took x ≡ first c) where
+  module _ (is-zero : F → Bool) (g : ℕ) (c : Contents F) (x : F) (given : took x ≡ first c) where
     abbrev later : List F
     later = rest-of (c .figures)
 
-    whole-group : suc (group - 1) ≡ group
-    whole-group = omega arith
-
-    kept-figures : is-zero x ≡ false → stayers is-zero (groups group (c .figures)) ≡ x ∷ (take (group - 1) later ++ stayers is-zero (groups group (drop (group - 1) later)))
+    kept-figures : is-zero x ≡ false → stayers is-zero (groups (suc g) (c .figures)) ≡ x ∷ (take g later ++ stayers is-zero (groups (suc g) (drop g later)))
     kept-figures stays =
-        ap (λ xs. stayers is-zero (groups group xs)) (took-first c x given)
-        ∙ subst (λ k. stayers is-zero (groups k (x ∷ later)) ≡ x ∷ (take (group - 1) later ++ stayers is-zero (groups k (drop (group - 1) later)))) whole-group
-        (stayers-kept is-zero (group - 1) x later stays)
+        ap (λ xs. stayers is-zero (groups (suc g) xs)) (took-first c x given) ∙ stayers-kept is-zero g x later stays
 
-    pub kept-answer : is-zero x ≡ false → took x ≡ first (filtered is-zero group 0 c)
+    pub kept-answer : is-zero x ≡ false → took x ≡ first (filtered is-zero (suc g) 0 c)
     kept-answer stays = sym (ap (first-of (c .ending)) (kept-figures stays))
 
-    pub kept-after : is-zero x ≡ false → filtered is-zero group (group - 1) (rest c) ≡ rest (filtered is-zero group 0 c)
+    pub kept-after : is-zero x ≡ false → filtered is-zero (suc g) g (rest c) ≡ rest (filtered is-zero (suc g) 0 c)
     kept-after stays = sym (ap (λ xs. record { figures = rest-of xs; ending = c .ending }) (kept-figures stays))
 
-    pub dropped-after : is-zero x ≡ true → filtered is-zero group 0 (past (group - 1) (rest c)) ≡ filtered is-zero group 0 c
+    pub dropped-after : is-zero x ≡ true → filtered is-zero (suc g) 0 (past g (rest c)) ≡ filtered is-zero (suc g) 0 c
     dropped-after gone =
         sym (ap (λ xs. record { figures = xs; ending = c .ending })
-        (ap (λ xs. stayers is-zero (groups group xs)) (took-first c x given)
-        ∙ subst (λ k. stayers is-zero (groups k (x ∷ later)) ≡ stayers is-zero (groups k (drop (group - 1) later))) whole-group
-        (stayers-dropped is-zero (group - 1) x later gone)))
+          (ap (λ xs. stayers is-zero (groups (suc g) xs)) (took-first c x given) ∙ stayers-dropped is-zero g x later gone))
 
     -- The roll gets shorter, so that the filter comes to an end.
-    pub dropped-shorter : length (past (group - 1) (rest c) .figures) < length (c .figures)
+    pub dropped-shorter : length (past g (rest c) .figures) < length (c .figures)
     dropped-shorter =
         let held = ap length (took-first c x given) in
-        let cut = length-drop (group - 1) later in
+        let cut = length-drop g later in
         omega arith
 
   -- The filter inside a group hands over what the roll does.

@@ -3,7 +3,7 @@
 use mathlib.Core.Bool.{Bool, true, false, cond}
 use mathlib.Core.List.{List, [], _∷_, _++_}
 use mathlib.Core.Path.{_≡_}
-use Prim.Native.Nat.{ℕ, zero, suc, _-_, _≤_}
+use Prim.Native.Nat.{ℕ, zero, suc, _≤_}
 use lib.ListN.{length, drop, take}
 use Rattle.std.specs.declared.result.Result.{Result}
 use Rattle.std.specs.declared.result.Result.the-variants.{Ok, Err}
@@ -58,8 +58,8 @@ pub record Keeps {F : Type 0} (is-zero : F → Bool) (g : ℕ) (all through : Li
 
 -- How many figures of its group are to follow a first figure that is handed over.
 abbrev pub left-after : {F E : Type 0} → ℕ → Result F E → ℕ
-left-after g (Ok x) = g - 1
-left-after g (Err e) = 0
+left-after behind (Ok x) = behind
+left-after behind (Err e) = 0
 
 -- What a roll holds once so many figures have been taken from it.
 abbrev pub past : {F : Type 0} → ℕ → Contents F → Contents F

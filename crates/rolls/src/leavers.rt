@@ -1,7 +1,7 @@
 // The leaver filter: a roll over any roll, without the groups of those who have left.
 
 ghost use mathlib.Core.Path.{_≡_};
-ghost use Prim.Native.Nat.{_≤_};
+ghost use Prim.Native.Nat.{suc};
 ghost use denote.Ref.{now};
 ghost use Rattle.figures.specs.Kinds.{stands-for-zero};
 ghost use Rattle.rolls.specs.Contents.{first as first-figure, rest};
@@ -15,13 +15,13 @@ use crate::roll::Roll;
 use figures::kind::Figures;
 use figures::kind::zero;
 
-// Any roll, parted into groups of `group` figures, of the present one of which `left` are still to be handed over.
+// Any roll, parted into groups of a first figure and so many behind it; of the present group `left` are still to be
+// handed over.
 #[derive(Drop)]
 pub struct LeaverFilter<R> {
     roll: R,
-    group: usize,
+    behind: usize,
     left: usize,
-    ghost sized: { Group-size group },
 }
 
 // Why no filter is made; the roll that was handed in comes back.
@@ -45,14 +45,14 @@ impl<R> FilterRefusal<R> {
 impl<R: Roll> LeaverFilter<R> {
     // The filter over a roll, with this group size.
     pub fn new(roll: R, group: usize) -> Result<LeaverFilter<R>, FilterRefusal<R>>
-        ensures { λ r. ⌜ Cases r (λ f. Made-over (stands-for-zero (Figure·Figures .kind) (Figure·Figures .means)) group (holds roll) (filtered (stands-for-zero (Figure·Figures .kind) (Figure·Figures .means)) (f .group) (f .left) (holds (f .roll)))) (λ e. (Group-size group → ⊥) × (e ≡ GroupSize roll)) ⌝ }
+        ensures { λ r. ⌜ Cases r (λ f. Made-over (stands-for-zero (Figure·Figures .kind) (Figure·Figures .means)) group (holds roll) (filtered (stands-for-zero (Figure·Figures .kind) (Figure·Figures .means)) (suc (f .behind)) (f .left) (holds (f .roll)))) (λ e. (Group-size group → ⊥) × (e ≡ GroupSize roll)) ⌝ }
     {
         if group < 1 || group > 64 {
             return Err(FilterRefusal::GroupSize(roll));
         }
         Ok(LeaverFilter {
             roll,
-            group,
+            behind: group - 1,
             left: 0,
         })
     }
@@ -68,10 +68,9 @@ fn skip<R: Roll>(roll: &mut R, count: usize)
 }
 
 // The first figure of the next group that is kept.
-fn next_kept<R: Roll>(roll: &mut R, group: usize) -> Result<R::Figure, Ending>
-    requires { ⌜ 1 ≤ group ⌝ }
-    ensures answer { λ r. ⌜ taken r ≡ first-figure (filtered (stands-for-zero (Figure·Figures .kind) (Figure·Figures .means)) group 0 (holds (now (roll .entry)))) ⌝ }
-    ensures after { λ r. ⌜ filtered (stands-for-zero (Figure·Figures .kind) (Figure·Figures .means)) group (left-after group r) (holds (now (roll .exit))) ≡ rest (filtered (stands-for-zero (Figure·Figures .kind) (Figure·Figures .means)) group 0 (holds (now (roll .entry)))) ⌝ }
+fn next_kept<R: Roll>(roll: &mut R, behind: usize) -> Result<R::Figure, Ending>
+    ensures answer { λ r. ⌜ taken r ≡ first-figure (filtered (stands-for-zero (Figure·Figures .kind) (Figure·Figures .means)) (suc behind) 0 (holds (now (roll .entry)))) ⌝ }
+    ensures after { λ r. ⌜ filtered (stands-for-zero (Figure·Figures .kind) (Figure·Figures .means)) (suc behind) (left-after behind r) (holds (now (roll .exit))) ≡ rest (filtered (stands-for-zero (Figure·Figures .kind) (Figure·Figures .means)) (suc behind) 0 (holds (now (roll .entry)))) ⌝ }
 {
     let nought = zero::<R::Figure>();
     loop {
@@ -79,22 +78,22 @@ fn next_kept<R: Roll>(roll: &mut R, group: usize) -> Result<R::Figure, Ending>
         if !first.same(nought) {
             return Ok(first);
         }
-        skip(roll, group - 1);
+        skip(roll, behind);
     }
 }
 
 pub impl<R: Roll> Roll for LeaverFilter<R> as LeaverFilterRoll {
     type Figure = R::Figure;
 
-    ghost holds = { λ f. filtered (stands-for-zero (Figure·Figures .kind) (Figure·Figures .means)) (f .group) (f .left) (R·Roll .holds (f .roll)) };
+    ghost holds = { λ f. filtered (stands-for-zero (Figure·Figures .kind) (Figure·Figures .means)) (suc (f .behind)) (f .left) (R·Roll .holds (f .roll)) };
 
     fn take(&mut self) -> Result<R::Figure, Ending> {
         if self.left > 0 {
             self.left -= 1;
             return self.roll.take();
         }
-        let first = next_kept(&mut self.roll, self.group)?;
-        self.left = self.group - 1;
+        let first = next_kept(&mut self.roll, self.behind)?;
+        self.left = self.behind;
         Ok(first)
     }
 }

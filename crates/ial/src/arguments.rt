@@ -1,0 +1,50 @@
+// The command line: which command is asked for, and with what.
+
+use crate::failure::Failure;
+
+pub enum Command<'a> {
+    Help,
+    // `roll FILE [--group G]`
+    Roll { file: &'a str, group: Option<usize> },
+}
+
+// The command that the words say, the first of which is the program's own name.
+pub fn parse<'a>(words: &'a [String]) -> Result<Command<'a>, Failure> {
+    match words {
+        [] | [_] => Ok(Command::Help),
+        [_, name, rest @ ..] => match name.as_str() {
+            "help" | "--help" | "-h" => Ok(Command::Help),
+            "roll" => parse_roll(rest),
+            _ => Err(Failure::Usage("there is no such command")),
+        },
+    }
+}
+
+fn parse_roll<'a>(words: &'a [String]) -> Result<Command<'a>, Failure> {
+    match words {
+        [file] => Ok(Command::Roll {
+            file: file.as_str(),
+            group: None,
+        }),
+        [first, second, third] => {
+            if first.as_str() == "--group" {
+                return with_group(third, second);
+            }
+            if second.as_str() == "--group" {
+                return with_group(first, third);
+            }
+            Err(Failure::Usage("`roll` takes FILE and --group G"))
+        }
+        _ => Err(Failure::Usage("`roll` takes FILE and --group G")),
+    }
+}
+
+fn with_group<'a>(file: &'a String, size: &'a String) -> Result<Command<'a>, Failure> {
+    match size.as_str().parse::<usize>() {
+        Ok(group) => Ok(Command::Roll {
+            file: file.as_str(),
+            group: Some(group),
+        }),
+        Err(_) => Err(Failure::NoNumber),
+    }
+}

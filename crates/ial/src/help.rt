@@ -1,0 +1,24 @@
+// What `ial help` prints.
+
+use crate::failure::Failure;
+use crate::failure::FailureFromIo;
+
+const TEXT: &str = "ial: fund rules in IAL, translated and run with proof
+
+  ial roll FILE [--group G]   read a roll of members and print how many figures
+                              it holds, their total and how it ends; with
+                              --group, without the groups of G figures whose
+                              first figure is 0 (those who have left)
+  ial help                    print this
+
+A roll file holds one whole figure a line: an optional minus sign and 1 to 10
+digits, within -2000000000 to 2000000000. The first line that is none, or has no
+line end, damages the roll from its first byte on.
+
+Results go to standard output. What cannot be done is told in one line on
+standard error, with status 1.";
+
+pub fn print(rt: &LibcRuntime) -> Result<(), Failure> {
+    rt.println(TEXT)?;
+    Ok(())
+}
