@@ -1,4 +1,6 @@
+pub mod Bytes
 pub mod Passing
 pub mod Places
 pub mod Rulings
+pub mod Storing
 pub mod Verdicts

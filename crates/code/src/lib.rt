@@ -6,3 +6,4 @@ pub mod laws;
 pub mod operations;
 pub mod refusals;
 pub mod sizes;
+pub mod stored;
