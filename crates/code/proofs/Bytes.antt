@@ -82,7 +82,7 @@ joined-step at i xs front before after l h w =
     ∙ joined-more (bytes-of 8) front (take i xs) (getD xs i 0) ∙ ap (λ t. front ++ joined (bytes-of 8) t) (sym (take-more xs i 0 l))
 
 -- One operand more is read.
-length-numbers : (k : ℕ) (bs : List ℕ) → length (numbers k bs) ≡ k
+pub length-numbers : (k : ℕ) (bs : List ℕ) → length (numbers k bs) ≡ k
 unfolding numbers
 length-numbers zero bs = refl
 length-numbers (suc k) bs = ap suc (length-numbers k (drop 8 bs))

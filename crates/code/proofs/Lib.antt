@@ -1,6 +1,7 @@
 pub mod Bytes
 pub mod Passing
 pub mod Places
+pub mod RoundTrip
 pub mod Rulings
 pub mod Storing
 pub mod Verdicts

@@ -1,9 +1,10 @@
 -- The stored form of code, and what the calls that store and load it give.
 -- A file is n, v, m and D in four bytes each, then a byte for each operation, then eight bytes for each operand;
 -- every number has its low byte first.
+use mathlib.Core.Path.{_≡_}
 use mathlib.Core.Bool.{Bool, cond}
 use mathlib.Core.List.{List, [], _∷_, _++_}
-use Prim.Native.Nat.{ℕ, zero, suc, _+_, _*_, _/_, _%_}
+use Prim.Native.Nat.{ℕ, zero, suc, _+_, _*_, _/_, _%_, _≤_}
 use lib.ListN.{length, take, drop}
 use lib.Dec.{leb, eqb}
 use Rattle.std.specs.shelf.Lists.{joined}
@@ -91,3 +92,13 @@ load bs os xs =
     (loaded (sizes-in bs) bs os xs)
     (record { answer = refuses 21; operations = os; operands = xs }))
     (record { answer = refuses 27; operations = os; operands = xs })
+
+-- From the bytes a load gives the code back, into any arrays with room.
+abbrev pub Reloads : Sizes → List ℕ → List ℕ → List ℕ → Type 0
+Reloads s os xs bs =
+    (os′ xs′ : List ℕ) → s .operations ≤ length os′ → s .operations ≤ length xs′
+    → load bs os′ xs′ ≡ record { answer = gives s; operations = take (s .operations) os ++ drop (s .operations) os′; operands = take (s .operations) xs ++ drop (s .operations) xs′ }
+
+-- The loaded code has these bytes for its file.
+abbrev pub Restores : Sizes → List ℕ → List ℕ → List ℕ → Type 0
+Restores s os xs bs = file (code-of s os xs) ≡ bs

@@ -4,8 +4,9 @@ ghost use mathlib.Core.Path.{_≡_};
 ghost use mathlib.Core.List.{_++_};
 ghost use Prim.Native.Nat.{ℕ, _+_, _*_, _<_, _≤_};
 ghost use lib.ListN.{length, take, drop};
+ghost use Rattle.std.specs.Results.{Cases};
 ghost use Rattle.std.specs.shelf.Lists.{joined};
-ghost use Rattle.code.specs.Files.{answer-of, bytes-of, file, file-length, header, load as loading, number-of, numbers, sizes-in, store as storing};
+ghost use Rattle.code.specs.Files.{Reloads, Restores, answer-of, bytes-of, file, file-length, header, load as loading, number-of, numbers, sizes-in, store as storing};
 use crate::check::are_lent_sizes_ok;
 use crate::refusals::Refusal;
 use crate::sizes::Sizes;
@@ -104,7 +105,8 @@ pub fn store(
     operands: &[u64],
     buffer: &mut [u8],
 ) -> Result<usize, Refusal>
-    ensures { λ r. ⌜ storing sizes (now (operations .entry)) (now (operands .entry)) (now (buffer .entry)) ≡ record { answer = answer-of r; buffer = now (buffer .exit) } ⌝ }
+    ensures answer { λ r. ⌜ storing sizes (now (operations .entry)) (now (operands .entry)) (now (buffer .entry)) ≡ record { answer = answer-of r; buffer = now (buffer .exit) } ⌝ }
+    ensures reloads { λ r. ⌜ Cases r (λ k. Reloads sizes (now (operations .entry)) (now (operands .entry)) (take k (now (buffer .exit)))) (λ _. Unit {0}) ⌝ }
 {
     if !are_lent_sizes_ok(sizes, operations.len(), operands.len()) {
         return Err(Refusal::BadSizes);
@@ -124,7 +126,8 @@ pub fn store(
 
 // Loads a file into the front of both arrays; answers its sizes.
 pub fn load(bytes: &[u8], operations: &mut [u8], operands: &mut [u64]) -> Result<Sizes, Refusal>
-    ensures { λ r. ⌜ loading (now (bytes .entry)) (now (operations .entry)) (now (operands .entry)) ≡ record { answer = answer-of r; operations = now (operations .exit); operands = now (operands .exit) } ⌝ }
+    ensures answer { λ r. ⌜ loading (now (bytes .entry)) (now (operations .entry)) (now (operands .entry)) ≡ record { answer = answer-of r; operations = now (operations .exit); operands = now (operands .exit) } ⌝ }
+    ensures restores { λ r. ⌜ Cases r (λ s. Restores s (now (operations .exit)) (now (operands .exit)) (now (bytes .entry))) (λ _. Unit {0}) ⌝ }
 {
     if bytes.len() < HEADER {
         return Err(Refusal::BadLength);
