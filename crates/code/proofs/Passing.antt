@@ -11,6 +11,12 @@ use lib.Dec.{leb, ltb, eqb}
 use Rattle.std.proofs.shelf.Tests.{and-parts}
 use Rattle.std.proofs.shelf.Ways.{tells}
 use Rattle.std.specs.Options.{mapped}
+use Rattle.std.specs.Orderings.{Decides}
+use Rattle.std.specs.Results.{isOk}
+use Rattle.std.specs.declared.result.Result.{Result}
+use Rattle.std.specs.declared.result.Result.the-variants.{Ok, Err}
+use Rattle.code.specs.declared.refusals.Refusal.{Refusal}
+use Rattle.code.specs.Answers.{number, told-at, verdict-of}
 use Rattle.std.specs.declared.option.Option.{Option}
 use Rattle.std.specs.declared.option.Option.the-variants.{Some, None}
 use Rattle.code.specs.declared.operations.Operation.{Operation}
@@ -175,3 +181,9 @@ module _ (c : Code) (w : Well-formed c) where
       let f = w .shallow in let g = w .operations-long in let h = w .operands-long in
       let good : sizes-ok c ≡ true = grind (arith, tells) in
       check-good-sizes c good ∙ passes-to-end (length (c .operations)) 0 (omega arith)
+
+-- What the check answers tells whether the code is well formed.
+pub answer→well-formed : {X : Type 0} (r : Result X Refusal) (c : Code) → verdict-of r ≡ check c → Decides (isOk r) (Well-formed c)
+answer→well-formed (Ok x) c e = (λ _. passes→well-formed c (sym e), λ _. refl)
+answer→well-formed (Err k) c e =
+    (λ h. let z : _≡_ {A = ℕ} 0 1 = cc in absurd (omega arith), λ w. not-passes (number k) (told-at k) (e ∙ well-formed→passes c w))

@@ -3,6 +3,7 @@
 use mathlib.Core.Bool.{Bool, cond, _&&_}
 use Prim.Native.Nat.{ℕ, _+_, _*_, _/_, _%_, _^_}
 use lib.Dec.{leb, ltb}
+use lib.IntN.{ℤ, pos, _-ℤ_}
 use Rattle.code.specs.declared.descriptor.Descriptor.{Descriptor}
 use Rattle.std.specs.declared.option.Option.{Option}
 use Rattle.std.specs.declared.option.Option.the-variants.{Some, None}
@@ -25,3 +26,7 @@ packed d = cond (packable d) (Some (packed-number d)) None
 abbrev pub range-ok : ℕ → Descriptor → Bool
 range-ok m d =
     leb 1 (d .count) && (leb (d .first + d .count) m && (leb 1 (d .«biased_low») && leb (d .«biased_low») 19999))
+
+-- The low bound itself.
+abbrev pub low-bound : Descriptor → Option ℤ
+low-bound d = cond (leb 1 (d .«biased_low») && leb (d .«biased_low») 19999) (Some (pos (d .«biased_low») -ℤ pos 10000)) None

@@ -4,5 +4,6 @@ pub mod CheckedCode
 pub mod Codes
 pub mod Descriptors
 pub mod Files
+pub mod Names
 pub mod Operations
 pub mod WellFormed

@@ -1,7 +1,9 @@
 // The check of code, rule by rule.
 ghost use mathlib.Core.Path.{_≡_};
 ghost use Prim.Native.Nat.{ℕ, _+_, _<_, _≤_};
-ghost use Rattle.std.specs.Results.{Cases};
+ghost use Rattle.std.specs.Orderings.{Decides};
+ghost use Rattle.std.specs.Results.{Cases, isOk};
+ghost use Rattle.code.specs.WellFormed.{Well-formed};
 ghost use Rattle.std.specs.declared.option.Option.the-variants.{Some};
 ghost use Rattle.code.specs.Answers.{ruling-of, told-at, verdict-of};
 ghost use Rattle.code.specs.Operations.{operation};
@@ -207,6 +209,7 @@ pub fn check<'a>(
     operands: &'a [u64],
 ) -> Result<(), Refusal>
     ensures answer { λ r. ⌜ verdict-of r ≡ verdict (code-of sizes (now (operations .entry)) (now (operands .entry))) ⌝ }
+    ensures passes { λ r. ⌜ Decides (isOk r) (Well-formed (code-of sizes (now (operations .entry)) (now (operands .entry)))) ⌝ }
     ensures after { λ r. ⌜ Cases r (λ _. code-in (now (place .exit)) ≡ code-of sizes (now (operations .entry)) (now (operands .entry))) (λ _. now (place .exit) ≡ now (place .entry)) ⌝ }
 {
     if !are_lent_sizes_ok(sizes, operations.len(), operands.len()) {

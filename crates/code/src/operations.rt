@@ -1,5 +1,8 @@
 // The operations of the stack machine.
 ghost use mathlib.Core.Path.{_≡_};
+ghost use Rattle.std.specs.Options.{Cases};
+ghost use Rattle.std.specs.declared.option.Option.the-variants.{Some};
+ghost use Rattle.code.specs.Names.{name};
 ghost use Rattle.code.specs.Operations.{operation, number, operand, role, taken, left};
 
 // An operation: its number, its operand, the figures that it takes from the stack and leaves there, and its effect.
@@ -144,7 +147,8 @@ static OPERATIONS: [Operation; 30] = [
 
 // The operation that the byte is the number of.
 pub fn decode(byte: u8) -> Option<Operation>
-    ensures { λ r. ⌜ r ≡ operation byte ⌝ }
+    ensures value { λ r. ⌜ r ≡ operation byte ⌝ }
+    ensures numbered { λ r. ⌜ Cases r (Unit {0}) (λ o. number o ≡ byte) ⌝ }
 {
     if byte < 30 {
         Some(OPERATIONS[byte as usize])
@@ -155,7 +159,8 @@ pub fn decode(byte: u8) -> Option<Operation>
 
 impl Operation {
     pub fn number(self) -> u8
-        ensures { λ r. ⌜ r ≡ number self ⌝ }
+        ensures value { λ r. ⌜ r ≡ number self ⌝ }
+        ensures decodes { λ r. ⌜ operation r ≡ Some self ⌝ }
     {
         self as u8
     }
@@ -222,6 +227,44 @@ impl Operation {
             Operation::Jump | Operation::False | Operation::Table | Operation::Rows => 0,
             Operation::Here | Operation::Take | Operation::TakeW | Operation::Post => 0,
             _ => 1,
+        }
+    }
+
+    // Its name in a listing.
+    pub fn name(self) -> &'static str
+        ensures { λ r. ⌜ now r ≡ name self ⌝ }
+    {
+        match self {
+            Operation::Halt => "HALT",
+            Operation::Mark => "MARK",
+            Operation::Const => "CONST",
+            Operation::Load => "LOAD",
+            Operation::Store => "STORE",
+            Operation::Get => "GET",
+            Operation::Put => "PUT",
+            Operation::Test => "TEST",
+            Operation::Round => "ROUND",
+            Operation::Truth => "TRUTH",
+            Operation::Add => "ADD",
+            Operation::Sub => "SUB",
+            Operation::Mul => "MUL",
+            Operation::Div => "DIV",
+            Operation::Neg => "NEG",
+            Operation::Less => "LESS",
+            Operation::Same => "SAME",
+            Operation::More => "MORE",
+            Operation::Not => "NOT",
+            Operation::And => "AND",
+            Operation::Or => "OR",
+            Operation::Eqv => "EQV",
+            Operation::Jump => "JUMP",
+            Operation::False => "FALSE",
+            Operation::Table => "TABLE",
+            Operation::Rows => "ROWS",
+            Operation::Here => "HERE",
+            Operation::Take => "TAKE",
+            Operation::TakeW => "TAKEW",
+            Operation::Post => "POST",
         }
     }
 }

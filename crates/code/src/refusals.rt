@@ -1,6 +1,7 @@
 // Why a call on code or on a stored file is refused.
 ghost use mathlib.Core.Path.{_≡_};
 ghost use Rattle.code.specs.Answers.{number, told-at};
+ghost use Rattle.code.specs.Names.{reason};
 
 #[derive(Clone, Copy, PartialEq, Debug)]
 pub enum Refusal {
@@ -48,18 +49,19 @@ impl Refusal {
         }
     }
 
-    // A sentence for the reader of a report.
-    pub fn reason(self) -> &'static str {
+    // Why, for the reader of a report.
+    pub fn reason(self) -> &'static str
+        ensures { λ r. ⌜ now r ≡ reason self ⌝ }
+    {
         match self {
-            Refusal::BadSizes => "the sizes are beyond their limits",
-            Refusal::UnknownOperation(_) => "there is no operation of this number",
-            Refusal::BadOperand(_) => "the operand is against its rule",
-            Refusal::BadDepth(_) =>
-                "the depth is under 0, over the limit, or not 0 where it is due",
-            Refusal::BadTarget(_) => "a jump, a ROWS or place 0 is against its rule",
-            Refusal::BadLast(_) => "the last operation is neither HALT nor JUMP",
-            Refusal::BadLength => "the file is not 16 + 9n bytes long",
-            Refusal::ShortBuffer => "the buffer is shorter than the file",
+            Refusal::BadSizes => "sizes beyond their limits, or arrays shorter than n",
+            Refusal::UnknownOperation(_) => "unknown operation",
+            Refusal::BadOperand(_) => "operand against its rule",
+            Refusal::BadDepth(_) => "depth under 0, over the limit, or not 0 where due",
+            Refusal::BadTarget(_) => "jump, ROWS or place 0 against its rule",
+            Refusal::BadLast(_) => "last operation is neither HALT nor JUMP",
+            Refusal::BadLength => "file is not 16 + 9n bytes",
+            Refusal::ShortBuffer => "buffer shorter than the file",
         }
     }
 }

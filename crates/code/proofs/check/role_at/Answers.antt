@@ -11,7 +11,7 @@ returns-then-place-operations c = sym (ap (mapped role) (operation-at-past (c .a
 pub returns-in-Some : need.returns-in-Some
 returns-in-Some c =
     ap Some (c .role .ensures)
-    ∙ ap (mapped role) (c .in-Some .ensures tt ∙ sym (operation-at-inside (c .args .operations .now) (c .args .place) (c .if-place-operations .left)))
+    ∙ ap (mapped role) (c .in-Some .ensures tt .value ∙ sym (operation-at-inside (c .args .operations .now) (c .args .place) (c .if-place-operations .left)))
 
 pub returns-in-None : need.returns-in-None
-returns-in-None c = ap (mapped role) (c .in-None .ensures tt ∙ sym (operation-at-inside (c .args .operations .now) (c .args .place) (c .if-place-operations .left)))
+returns-in-None c = ap (mapped role) (c .in-None .ensures tt .value ∙ sym (operation-at-inside (c .args .operations .now) (c .args .place) (c .if-place-operations .left)))
