@@ -1,4 +1,5 @@
 pub mod Answers
+pub mod Cases
 pub mod Check
 pub mod CheckedCode
 pub mod Codes
