@@ -4,4 +4,5 @@ pub mod Places
 pub mod RoundTrip
 pub mod Rulings
 pub mod Storing
+pub mod Targets
 pub mod Verdicts

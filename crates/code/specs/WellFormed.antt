@@ -98,3 +98,15 @@ pub record Well-formed (c : Code) : Type 0 where
 
 abbrev pub Passing-is-well-formed : Type 0
 Passing-is-well-formed = (c : Code) → (check c ≡ passes → Well-formed c) × (Well-formed c → check c ≡ passes)
+
+-- Where a jump from i to x leads in well-formed code: to a place of the code at which no figures lie on the stack, and
+-- further on unless a step begins there. The same holds of the JUMPs of a ROWS.
+pub record Reaches (c : Code) (i x : ℕ) : Type 0 where
+  pub inside : x < c .sizes .operations
+  pub empty : depth-at (c .operations) x ≡ 0
+  pub onward : (i < x) ⊎ (operation-at (c .operations) x ≡ Some Mark)
+
+pub record Jumps-reach : Type 0 where
+  pub jump : (c : Code) → Well-formed c → (i x : ℕ) → Lands (c .operations) i x → Reaches c i x
+  pub row : (c : Code) → Well-formed c → (i : ℕ) → operation-at (c .operations) i ≡ Some Rows
+      → (j : ℕ) → j < getD (c .operands) i 0 → Reaches c (suc i + j) (getD (c .operands) (suc i + j) 0)
