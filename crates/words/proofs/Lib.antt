@@ -4,6 +4,7 @@ pub mod Tables
 pub mod OneWord
 pub mod NextWord
 pub mod WordByWord
+pub mod WordTable
 pub mod Spelled
 pub mod LongestWord
 pub mod ReadingLaw

@@ -247,9 +247,9 @@ pub words-of-reads : (text : List ℕ) → Reads text (words-of text)
 words-of-reads text = go (cases-lt 8192 (length text))
   where
     go : (8192 < length text) ⊎ (length text ≤ 8192) → Reads text (words-of text)
-    go (inl lt) = subst (Reads text) (sym (too-long-text text lt)) (text-too-long lt)
-    go (inr le) = subst (Reads text) (sym (short-text text le)) (text-read le (words-from-reads 500 0 text))
+    go (inl lt) = subst (Reads text) (sym (too-long-text 500 text lt)) (text-too-long lt)
+    go (inr le) = subst (Reads text) (sym (short-text 500 text le)) (text-read le (words-from-reads 500 0 text))
 
 pub reads→words-of : (text : List ℕ) (r : Words) → Reads text r → r ≡ words-of text
-reads→words-of text r (text-too-long lt) = sym (too-long-text text lt)
-reads→words-of text r (text-read le d) = reads-from→words-from r d ∙ sym (short-text text le)
+reads→words-of text r (text-too-long lt) = sym (too-long-text 500 text lt)
+reads→words-of text r (text-read le d) = reads-from→words-from r d ∙ sym (short-text 500 text le)

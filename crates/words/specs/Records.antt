@@ -2,7 +2,7 @@
 use mathlib.Core.Path.{_≡_}
 use mathlib.Core.List.{List, [], _∷_, map}
 use Prim.Native.Nat.{ℕ, _<_, _≤_}
-use lib.ListN.{take, drop}
+use lib.ListN.{take, drop, length}
 use Rattle.std.specs.declared.option.Option.{Option}
 use Rattle.std.specs.declared.option.Option.the-variants.{Some, None}
 use Rattle.std.specs.declared.result.Result.{Result}
@@ -66,6 +66,6 @@ words-in text table (Ok n) = words (map (word-in text) (take n table))
 words-in text table (Err e) = refused (e .reason) (e .place)
 
 -- An accepted text's words fill the table from its start, and what stands behind them stays.
-abbrev pub Kept-behind : List WordRecord → List WordRecord → Result ℕ Refusal → Type 0
-Kept-behind before after (Ok n) = (n ≤ 500) × (drop n after ≡ drop n before)
+abbrev pub Kept-behind : {R : Type 0} → List R → List R → Result ℕ Refusal → Type 0
+Kept-behind before after (Ok n) = (n ≤ length before) × (drop n after ≡ drop n before)
 Kept-behind before after (Err e) = Unit {0}

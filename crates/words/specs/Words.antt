@@ -110,6 +110,10 @@ abbrev pub words-from : ℕ → ℕ → List ℕ → Words
 words-from zero p bs = no-more (next-of p bs)
 words-from (suc left) p bs = one-more (next-of p bs) (λ q rest. words-from left q rest)
 
--- The words of a whole text: at most 8,192 bytes and 500 words.
-unfoldable pub words-of : List ℕ → Words
-words-of text = cond (ltb 8192 (length text)) (refused TextTooLong 8192) (words-from 500 0 text)
+-- The words of a whole text of at most 8,192 bytes, if there are at most so many.
+unfoldable pub words-within : ℕ → List ℕ → Words
+words-within most text = cond (ltb 8192 (length text)) (refused TextTooLong 8192) (words-from most 0 text)
+
+-- The words of a text, at most 500.
+abbrev pub words-of : List ℕ → Words
+words-of text = words-within 500 text

@@ -1,21 +1,42 @@
-// The words of a whole text, in a table.
+// The words of a whole text, in a table of records.
 
 ghost use mathlib.Core.Path.{_≡_};
-ghost use Rattle.words.specs.Words.{words-of};
+ghost use mathlib.Core.List.{map};
+ghost use Prim.Native.Nat.{min};
+ghost use lib.ListN.{length};
+ghost use Rattle.words.specs.Words.{words-within};
 ghost use Rattle.words.specs.Records.{words-in, Kept-behind};
+ghost use Rattle.words.specs.declared.word.Word.{Word as WordRecord};
 use crate::reader::next_word;
 use crate::refusal::Refusal;
 use crate::refusal::WordRefusal;
 use crate::word::Next;
 use crate::word::Word;
 
-pub const LONGEST_TEXT: usize = 8192;
+const LONGEST_TEXT: usize = 8192;
 
-pub const MOST_WORDS: usize = 500;
+const MOST_WORDS: usize = 500;
+
+// A record that a word can be put into: a bare word, or one with room for more beside it.
+pub trait WordSlot: Copy {
+    ghost word: { Self → WordRecord };
+
+    fn of_word(w: Word) -> Self
+        ensures { λ r. ⌜ word r ≡ w ⌝ };
+}
+
+pub impl WordSlot for Word as BareWord {
+    ghost word = { λ w. w };
+
+    fn of_word(w: Word) -> Word {
+        w
+    }
+}
 
 // Cuts a text into its words, which stand first in the table, and says how many there are.
-pub fn cut_words(text: &[u8], table: &mut [Word; 500]) -> Result<usize, Refusal>
-    ensures is { λ r. ⌜ words-in (now (text .entry)) (now (table .exit)) r ≡ words-of (now (text .entry)) ⌝ }
+// A table of fewer than 500 records has room for no more words than that.
+pub fn cut_words<S: WordSlot>(text: &[u8], table: &mut [S]) -> Result<usize, Refusal>
+    ensures is { λ r. ⌜ words-in (now (text .entry)) (map (S·WordSlot .word) (now (table .exit))) r ≡ words-within (min 500 (length (now (table .entry)))) (now (text .entry)) ⌝ }
     ensures rest { λ r. ⌜ Kept-behind (now (table .entry)) (now (table .exit)) r ⌝ }
 {
     if text.len() > LONGEST_TEXT {
@@ -24,6 +45,7 @@ pub fn cut_words(text: &[u8], table: &mut [Word; 500]) -> Result<usize, Refusal>
             place: LONGEST_TEXT,
         });
     }
+    let most = MOST_WORDS.min(table.len());
     let mut at = 0;
     let mut count = 0;
     'words: loop {
@@ -31,13 +53,13 @@ pub fn cut_words(text: &[u8], table: &mut [Word; 500]) -> Result<usize, Refusal>
             Next::End => return Ok(count),
             Next::Refused(refusal) => return Err(refusal),
             Next::Word(word, next) => {
-                if count == MOST_WORDS {
+                if count == most {
                     return Err(Refusal {
                         reason: WordRefusal::TooManyWords,
                         place: word.place,
                     });
                 }
-                table[count] = word;
+                table[count] = S::of_word(word);
                 count += 1;
                 at = next;
             }
