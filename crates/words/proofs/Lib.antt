@@ -8,3 +8,4 @@ pub mod WordTable
 pub mod Spelled
 pub mod LongestWord
 pub mod ReadingLaw
+pub mod AcceptedWords

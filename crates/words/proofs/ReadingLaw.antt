@@ -2,7 +2,7 @@
 use mathlib.Core.Path.{_≡_, refl, sym, _∙_, ap, ap₂, subst}
 use mathlib.Core.Bool.{Bool, true, false, cond, not}
 use mathlib.Core.List.{List, [], _∷_, _++_, append-assoc, append-nil}
-use Prim.Native.Nat.{ℕ, zero, suc, _+_, _-_, _≤_, _<_}
+use Prim.Native.Nat.{ℕ, zero, suc, min, _+_, _-_, _≤_, _<_}
 use native.Mathlib.Omega.{arith}
 use native.Mathlib.Numerals.{one-add}
 use lib.Chars.{codes}
@@ -18,7 +18,7 @@ use Rattle.std.proofs.shelf.Ways.{tells}
 use mathlib.Core.Logic.{_⊎_, inl, inr}
 use Rattle.words.specs.Token.{Token, Word, name, number, keyword, mark, sign, scaling, relation}
 use Rattle.words.specs.Spelling.{blank, not-semicolon, Made-of}
-use Rattle.words.specs.Words.{Found, found, nothing, longest-at, short, skipped, Next, end, next-word, next-refused, word-at, next-of, Words, words, refused, more, one-more, no-more, words-from, words-of}
+use Rattle.words.specs.Words.{Found, found, nothing, longest-at, short, skipped, Next, end, next-word, next-refused, word-at, next-of, Words, words, refused, more, one-more, no-more, words-from, words-within, words-of}
 use Rattle.words.specs.Reading.{Spells, Prefix, Longest, Short, Stops, Skips, comment-text, no-text, Cuts, here, gap, cut, Fault, no-word, too-long, too-many, Reads-from, to-the-end, to-a-fault, Reads, text-too-long, text-read}
 use Rattle.words.specs.declared.refusal.WordRefusal.{WordRefusal}
 use Rattle.words.specs.declared.refusal.WordRefusal.the-variants.{TextTooLong, NoWord, WordTooLong, TooManyWords}
@@ -253,3 +253,9 @@ words-of-reads text = go (cases-lt 8192 (length text))
 pub reads→words-of : (text : List ℕ) (r : Words) → Reads text r → r ≡ words-of text
 reads→words-of text r (text-too-long lt) = sym (too-long-text 500 text lt)
 reads→words-of text r (text-read le d) = reads-from→words-from r d ∙ sym (short-text 500 text le)
+
+-- A table with room for 500 words does not limit them further.
+pub roomy-table-reads : (text : List ℕ) (n : ℕ) (r : Words) → r ≡ words-within (min 500 n) text → 500 ≤ n → Reads text r
+roomy-table-reads text n r e le =
+    let m : min 500 n ≡ 500 = omega arith in
+    subst (Reads text) (sym (e ∙ ap (λ k. words-within k text) m)) (words-of-reads text)

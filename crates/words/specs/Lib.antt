@@ -5,3 +5,5 @@ pub mod Classes
 pub mod Words
 pub mod Records
 pub mod Reading
+pub mod Table
+pub mod Cases

@@ -7,7 +7,7 @@ use mathlib.Core.Bool.{true, false}
 use mathlib.Core.List.{List, [], _∷_, _++_}
 use Prim.Native.Nat.{ℕ, suc, _+_, _≤_, _<_}
 use lib.Chars.{codes}
-use lib.ListN.{length}
+use lib.ListN.{length, drop}
 use Rattle.std.specs.shelf.Lists.{All}
 use Rattle.std.specs.Text.{asciiDigit, asciiAlnum, asciiLetter}
 use Rattle.words.specs.Token.{Token, Word, name, number, keyword, mark, sign, scaling, relation}
@@ -85,8 +85,32 @@ pub data Reads (text : List ℕ) : Words → Type 0 where
   text-too-long : 8192 < length text → Reads text (refused TextTooLong 8192)
   text-read : {r : Words} → length text ≤ 8192 → Reads-from 500 0 text r → Reads text r
 
+-- Places ascend from p on and lie before the end.
+abbrev pub Ascending : ℕ → ℕ → List Word → Type 0
+Ascending p end [] = Unit {0}
+Ascending p end (w ∷ ws) = (p ≤ w .place) × (w .place < end) × Ascending (suc (w .place)) end ws
+
+-- A name has at most 16 bytes, and a number is at most 999,999,999.
+abbrev pub Within-bounds : Token → Type 0
+Within-bounds (name s) = length s ≤ 16
+Within-bounds (number v) = v ≤ 999999999
+Within-bounds (keyword k) = Unit {0}
+Within-bounds (mark m) = Unit {0}
+Within-bounds (sign g) = Unit {0}
+Within-bounds (scaling g) = Unit {0}
+Within-bounds (relation r) = Unit {0}
+
+-- What holds of the words of every accepted text. Each is the longest that begins at its place.
+pub record Accepted (text : List ℕ) (ws : List Word) : Type 0 where
+  pub not-too-long : length text ≤ 8192
+  pub not-too-many : length ws ≤ 500
+  pub ascending : Ascending 0 (length text) ws
+  pub within-bounds : All (λ w. Within-bounds (w .token)) ws
+  pub longest-there : All (λ w. (s : List ℕ) × Longest s (w .token) (drop (w .place) text)) ws
+
 -- The law: every text has a result by these rules, the one computed, and no other; and one spelling has one token.
 pub record Reading-law : Type 0 where
   pub result : (text : List ℕ) → Reads text (words-of text)
   pub no-other : (text : List ℕ) (r : Words) → Reads text r → r ≡ words-of text
+  pub accepted : (text : List ℕ) (ws : List Word) → words-of text ≡ words ws → Accepted text ws
   pub one-token : (s : List ℕ) (t t′ : Token) → Spells s t → Spells s t′ → t ≡ t′

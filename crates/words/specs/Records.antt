@@ -59,13 +59,3 @@ keyword-or None t = t
 abbrev pub mark-or : Option TokenRecord → ℕ → Found → Found
 mark-or (Some m) n o = found (token-in [] m) n
 mark-or None n o = o
-
--- The words or the refusal that an answer and the table it comes with stand for.
-abbrev pub words-in : List ℕ → List WordRecord → Result ℕ Refusal → Words
-words-in text table (Ok n) = words (map (word-in text) (take n table))
-words-in text table (Err e) = refused (e .reason) (e .place)
-
--- An accepted text's words fill the table from its start, and what stands behind them stays.
-abbrev pub Kept-behind : {R : Type 0} → List R → List R → Result ℕ Refusal → Type 0
-Kept-behind before after (Ok n) = (n ≤ length before) × (drop n after ≡ drop n before)
-Kept-behind before after (Err e) = Unit {0}

@@ -1,11 +1,7 @@
 // The words of a whole text, in a table of records.
 
 ghost use mathlib.Core.Path.{_≡_};
-ghost use mathlib.Core.List.{map};
-ghost use Prim.Native.Nat.{min};
-ghost use lib.ListN.{length};
-ghost use Rattle.words.specs.Words.{words-within};
-ghost use Rattle.words.specs.Records.{words-in, Kept-behind};
+ghost use Rattle.words.specs.Table.{Cut-into};
 ghost use Rattle.words.specs.declared.word.Word.{Word as WordRecord};
 use crate::reader::next_word;
 use crate::refusal::Refusal;
@@ -36,8 +32,7 @@ pub impl WordSlot for Word as BareWord {
 // Cuts a text into its words, which stand first in the table, and says how many there are.
 // A table of fewer than 500 records has room for no more words than that.
 pub fn cut_words<S: WordSlot>(text: &[u8], table: &mut [S]) -> Result<usize, Refusal>
-    ensures is { λ r. ⌜ words-in (now (text .entry)) (map (S·WordSlot .word) (now (table .exit))) r ≡ words-within (min 500 (length (now (table .entry)))) (now (text .entry)) ⌝ }
-    ensures rest { λ r. ⌜ Kept-behind (now (table .entry)) (now (table .exit)) r ⌝ }
+    ensures { λ r. ⌜ Cut-into (S·WordSlot .word) (now (text .entry)) (now (table .entry)) r (now (table .exit)) ⌝ }
 {
     if text.len() > LONGEST_TEXT {
         return Err(Refusal {
