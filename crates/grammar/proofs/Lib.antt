@@ -1,3 +1,6 @@
 pub mod Found
 pub mod Yields
 pub mod Sound
+pub mod Steps
+pub mod Ranks
+pub mod Complete

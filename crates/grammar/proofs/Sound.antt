@@ -13,7 +13,7 @@ use Rattle.grammar.specs.Tree.{Program}
 use Rattle.grammar.specs.Classes.{Class, Content, found, opens, levels-after}
 use Rattle.grammar.specs.Grammar.{Phrase, program, Value, Derives}
 use Rattle.grammar.specs.Parser.{Goal, Script, done, word, either, part, goto, within, start, opened, Around, nothing, waiting, State, at, Taken, here, inside, Met, takes, passes, refuses, if-found, met-within, meets, entered, met, after, moved, then-ended, ended, ended-around, finished, Outcome, tree, refused, early-or, levels, onward, run}
-use Rattle.grammar.proofs.Found.{none-some, some-same, class-opens, class-levels, token-of, found→is, token-levels}
+use Rattle.grammar.proofs.Found.{none-some, some-same, class-opens, class-levels, token-of, In-rank, found→is, token-levels}
 use Rattle.grammar.proofs.Yields.{Reaches, Yields, yields-more, yields-within, start-yields}
 
 module _ (limit : ℕ) where
@@ -42,14 +42,15 @@ module _ (limit : ℕ) where
     Meets R d refuses = Unit {0}
 
     found-meets : {p : Phrase} (R : List Word → Value p → Type 0) (d : ℕ) (c : Class) (y : Content c → ℕ → Script p) (n : Met p) (o : Option (Content c)) → found c (w .token) ≡ o
-        → Yields limit R d (w ∷ rs) (word c y) → Meets R d n → Meets R d (if-found (λ x. y x (w .place)) n o)
+      → ((x : Content c) → w .token ≡ token-of c x → In-rank c x → (class-opens c ≡ true → class-levels c d ≤ limit) → Yields limit R (class-levels c d) rs (y x (w .place)))
+      → Meets R d n → Meets R d (if-found (λ x. y x (w .place)) n o)
     found-meets R d c y n None e h k = k
     found-meets R d c y n (Some x) e h k = λ room.
-        let i = found→is c (w .token) x e in
-        let l = token-levels c x d in
-        let o : opens (w .token) ≡ class-opens c = ap opens (i .0) ∙ l .0 in
-        let m : levels-after (w .token) d ≡ class-levels c d = ap (λ t. levels-after t d) (i .0) ∙ l .1 in
-        rw m (h w rs x refl (i .0) (i .1) (λ u. rw m at (room (o ∙ u))))
+      let i = found→is c (w .token) x e in
+      let l = token-levels c x d in
+      let o : opens (w .token) ≡ class-opens c = ap opens (i .0) ∙ l .0 in
+      let m : levels-after (w .token) d ≡ class-levels c d = ap (λ t. levels-after t d) (i .0) ∙ l .1 in
+      rw m (h x (i .0) (i .1) (λ u. rw m at (room (o ∙ u))))
 
     within-meets : {p q : Phrase} (R : List Word → Value p → Type 0) (d : ℕ) (f : Value q → Script p) (next : Value q → Met p) (m : Met q) → Meets (λ ms v. Yields limit R d ms (f v)) d m
         → ((v : Value q) → Yields limit R d (w ∷ rs) (f v) → Meets R d (next v)) → Meets R d (met-within f next m)
@@ -59,8 +60,8 @@ module _ (limit : ℕ) where
 
     script-meets : {p : Phrase} (s : Script p) (R : List Word → Value p → Type 0) (d : ℕ) → Yields limit R d (w ∷ rs) s → Meets R d (meets (w .token) (w .place) s)
     script-meets (done v) R d h = h
-    script-meets (word c y) R d h = found-meets R d c y refuses (found c (w .token)) refl h tt
-    script-meets (either c y n) R d h = found-meets R d c y (meets (w .token) (w .place) n) (found c (w .token)) refl (h .0) (script-meets n R d (h .1))
+    script-meets (word c y) R d h = found-meets R d c y refuses (found c (w .token)) refl (λ x i _ o. h w rs x refl i o) tt
+    script-meets (either c y n) R d h = found-meets R d c y (meets (w .token) (w .place) n) (found c (w .token)) refl (λ x i r o. h .0 w rs x refl i r o) (script-meets n R d (h .1))
     script-meets (part g f) R d h = tt
     script-meets (goto g) R d h = tt
     script-meets (within s f) R d h =
@@ -68,13 +69,13 @@ module _ (limit : ℕ) where
 
   entered-levels : {p : Phrase} (t : Taken p) (d e : ℕ) (k : Around p) → levels (entered d e t k) ≡ e
   entered-levels (here s) d e k = refl
-  entered-levels (inside t f) d e k = entered-levels t d e (waiting d f k)
+  entered-levels (inside {q = q} t f) d e k = entered-levels t d e (waiting q d f k)
 
   module _ (whole : List Word) where
     -- What a tree means to those that wait for it.
     abbrev pub Meant : {p : Phrase} → Around p → List Word → Value p → Type 0
     Meant nothing ws v = Derives program limit whole ws v
-    Meant (waiting d f k) ws v = Yields limit (λ rs u. Meant k rs u) d ws (f v)
+    Meant (waiting q d f k) ws v = Yields limit (λ rs u. Meant k rs u) d ws (f v)
 
     -- In the state, with ws left, whatever is read from ws leads to trees that derive from the whole.
     abbrev pub At : State → List Word → Type 0
@@ -82,7 +83,7 @@ module _ (limit : ℕ) where
 
     entered-at : {p : Phrase} (t : Taken p) (k : Around p) (d e : ℕ) (rs : List Word) → Took (λ ms u. Meant k ms u) d e rs t → At (entered d e t k) rs
     entered-at (here s) k d e rs h = h
-    entered-at (inside t f) k d e rs h = entered-at t (waiting d f k) d e rs h
+    entered-at (inside {q = q} t f) k d e rs h = entered-at t (waiting q d f k) d e rs h
 
     module _ (w : Word) (rs : List Word) (q : State) (room : opens (w .token) ≡ true → levels q ≤ limit) where
       met-at : {p : Phrase} (d : ℕ) (k : Around p) (next : Value p → Option State) (m : Met p) → Meets w rs (λ ms u. Meant k ms u) d m
@@ -96,7 +97,7 @@ module _ (limit : ℕ) where
 
       after-at : {p : Phrase} (k : Around p) (v : Value p) → Meant k (w ∷ rs) v → after k v (w .token) (w .place) ≡ Some q → At q rs
       after-at nothing v h e = none-some e
-      after-at (waiting d f k) v h e =
+      after-at (waiting p d f k) v h e =
           met-at d k (λ u. after k u (w .token) (w .place)) (meets (w .token) (w .place) (opened (f v)))
           (script-meets w rs (opened (f v)) (λ ms u. Meant k ms u) d (opened-yields (f v) (λ ms u. Meant k ms u) d (w ∷ rs) h)) (λ u. after-at k u) e
 
@@ -127,7 +128,7 @@ module _ (limit : ℕ) where
 
       around-at : {p : Phrase} (k : Around p) (v : Value p) → Meant k [] v → ended-around k v ≡ Some t → Derives program limit whole [] t
       around-at nothing v h e = rw (some-same e) at h
-      around-at (waiting d f k) v h e =
+      around-at (waiting q d f k) v h e =
           then-at k (ended (opened (f v))) (λ u. ended-yields (opened (f v)) (λ ms x. Meant k ms x) d u (opened-yields (f v) (λ ms x. Meant k ms x) d [] h)) (λ u. around-at k u) e
 
       finished-at : (s : State) → At s [] → finished s ≡ Some t → Derives program limit whole [] t

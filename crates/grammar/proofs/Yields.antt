@@ -30,7 +30,7 @@ module _ (limit : ℕ) where
   -- With d levels open before ws, the script ends only before words rs and with a tree v such that R rs v.
   abbrev pub Yields : {p : Phrase} → (List Word → Value p → Type 0) → ℕ → List Word → Script p → Type 0
   Yields R d ws (done v) = R ws v
-  Yields R d ws (word c y) = (w : Word) (rs : List Word) (x : Content c) → ws ≡ w ∷ rs → w .token ≡ token-of c x → In-rank c x
+  Yields R d ws (word c y) = (w : Word) (rs : List Word) (x : Content c) → ws ≡ w ∷ rs → w .token ≡ token-of c x
       → (class-opens c ≡ true → class-levels c d ≤ limit) → Yields R (class-levels c d) rs (y x (w .place))
   Yields R d ws (either c y n) = ((w : Word) (rs : List Word) (x : Content c) → ws ≡ w ∷ rs → w .token ≡ token-of c x → In-rank c x
       → (class-opens c ≡ true → class-levels c d ≤ limit) → Yields R (class-levels c d) rs (y x (w .place))) × Yields R d ws n
@@ -41,7 +41,7 @@ module _ (limit : ℕ) where
   -- What R allows, Q may allow.
   pub yields-more : {p : Phrase} (s : Script p) (R Q : List Word → Value p → Type 0) (d : ℕ) (ws : List Word) → ((rs : List Word) (v : Value p) → R rs v → Q rs v) → Yields R d ws s → Yields Q d ws s
   yields-more (done v) R Q d ws f h = f ws v h
-  yields-more (word c y) R Q d ws f h = λ w rs x e i r o. yields-more (y x (w .place)) R Q (class-levels c d) rs f (h w rs x e i r o)
+  yields-more (word c y) R Q d ws f h = λ w rs x e i o. yields-more (y x (w .place)) R Q (class-levels c d) rs f (h w rs x e i o)
   yields-more (either c y n) R Q d ws f h = (λ w rs x e i r o. yields-more (y x (w .place)) R Q (class-levels c d) rs f (h .0 w rs x e i r o), yields-more n R Q d ws f (h .1))
   yields-more (part g k) R Q d ws f h = λ rs v x. yields-more (k v) R Q d rs f (h rs v x)
   yields-more (goto g) R Q d ws f h = λ rs v x. f rs v (h rs v x)
@@ -87,19 +87,19 @@ module _ (limit d : ℕ) (ws : List Word) where
   deeper h = omega arith
 
   name-yields : Yields limit (From (a identifier)) d ws name-script
-  name-yields = λ w rs n e i _ _. rw e (a-name i)
+  name-yields = λ w rs n e i _. rw e (a-name i)
 
   variable-yields : Yields limit (From (a variable)) d ws variable-script
-  variable-yields = λ w rs n e i _ _. (
-    λ o ms _ e₂ i₂ _ h ns x dx c ts _ e₃ i₃ _ _. rw (e, e₂) (an-indexed (deeper (h refl)) i i₂ (rw e₃ at dx) i₃),
+  variable-yields = λ w rs n e i _. (
+    λ o ms _ e₂ i₂ _ h ns x dx c ts _ e₃ i₃ _. rw (e, e₂) (an-indexed (deeper (h refl)) i i₂ (rw e₃ at dx) i₃),
     rw e (a-whole i),
   )
 
   factor-yields : Yields limit (From (a factor)) d ws factor-script
   factor-yields = (
     λ o ms _ e i _ h ns x dx. (
-      λ r ms₂ q e₂ i₂ _ _ ns₂ y dy c ts _ e₃ i₃ _ _. rw e (a-comparison (deeper (h refl)) i (rw e₂ at dx) i₂ (rw e₃ at dy) i₃),
-      λ c ts _ e₂ i₂ _ _. rw e (in-brackets (deeper (h refl)) i (rw e₂ at dx) i₂),
+      λ r ms₂ q e₂ i₂ _ _ ns₂ y dy c ts _ e₃ i₃ _. rw e (a-comparison (deeper (h refl)) i (rw e₂ at dx) i₂ (rw e₃ at dy) i₃),
+      λ c ts _ e₂ i₂ _. rw e (in-brackets (deeper (h refl)) i (rw e₂ at dx) i₂),
     ),
     (
       λ w rs n e i _ _. rw e (a-number i),
@@ -122,37 +122,37 @@ module _ (limit d : ℕ) (ws : List Word) where
   element-yields : Yields limit (From (a element)) d ws element-script
   element-yields = yields-within limit (ranked-script 1) element-rest (From (a exp)) (From (a element)) d ws
       (λ ms x dx. (
-        λ o ns _ e i _ h ns₂ y dy c ts _ e₂ i₂ _ _ us z dz. a-progression (deeper (h refl)) (rw e at dx) i (rw e₂ at dy) i₂ dz,
+        λ o ns _ e i _ h ns₂ y dy c ts _ e₂ i₂ _ us z dz. a-progression (deeper (h refl)) (rw e at dx) i (rw e₂ at dy) i₂ dz,
         a-single dx,
       ))
       (ranked-yields 1)
 
   statement-yields : Yields limit (From (a statement)) d ws statement-script
   statement-yields = (
-    λ w rs _ e i _ h ms x dx c ns _ e₂ i₂ _ _ ts s ds. rw e (a-conditional (deeper (h refl)) i (rw e₂ at dx) i₂ ds),
+    λ w rs _ e i _ h ms x dx c ns _ e₂ i₂ _ ts s ds. rw e (a-conditional (deeper (h refl)) i (rw e₂ at dx) i₂ ds),
     (
-      λ f r₁ _ e i _ h w r₂ n e₂ i₂ _ _ b r₃ _ e₃ i₃ _ _ ms es des c ns _ e₄ i₄ _ _ ts s ds.
+      λ f r₁ _ e i _ h w r₂ n e₂ i₂ _ b r₃ _ e₃ i₃ _ ms es des c ns _ e₄ i₄ _ ts s ds.
           rw (e, e₂, e₃) (a-repetition (deeper (h refl)) i i₂ i₃ (rw e₄ at des) i₄ ds),
       (
-        λ b r₁ _ e i _ h ms ss dss c ns _ e₂ i₂ _ _. rw e (a-block (deeper (h refl)) i (rw e₂ at dss) i₂),
+        λ b r₁ _ e i _ h ms ss dss c ns _ e₂ i₂ _. rw e (a-block (deeper (h refl)) i (rw e₂ at dss) i₂),
         (
-          λ g r₁ _ e i _ _ t r₂ _ e₂ i₂ _ _ w r₃ n e₃ i₃ _ _. (
-            λ o r₄ _ e₄ i₄ _ h ms x dx c ts _ e₅ i₅ _ _. rw (e, e₂, e₃, e₄) (a-switched-jump (deeper (h refl)) i i₂ i₃ i₄ (rw e₅ at dx) i₅),
+          λ g r₁ _ e i _ _ t r₂ _ e₂ i₂ _ w r₃ n e₃ i₃ _. (
+            λ o r₄ _ e₄ i₄ _ h ms x dx c ts _ e₅ i₅ _. rw (e, e₂, e₃, e₄) (a-switched-jump (deeper (h refl)) i i₂ i₃ i₄ (rw e₅ at dx) i₅),
             rw (e, e₂, e₃) (a-jump i i₂ i₃),
           ),
           (
-            λ j r₁ _ e i _ _ t r₂ _ e₂ i₂ _ _ o r₃ _ e₃ i₃ _ h ms v dv c ts _ e₄ i₄ _ _. rw (e, e₂, e₃) (an-input (deeper (h refl)) i i₂ i₃ (rw e₄ at dv) i₄),
+            λ j r₁ _ e i _ _ t r₂ _ e₂ i₂ _ o r₃ _ e₃ i₃ h ms v dv c ts _ e₄ i₄ _. rw (e, e₂, e₃) (an-input (deeper (h refl)) i i₂ i₃ (rw e₄ at dv) i₄),
             (
-              λ j r₁ _ e i _ _ o r₂ _ e₂ i₂ _ h ms xs dxs c ts _ e₃ i₃ _ _. rw (e, e₂) (a-print (deeper (h refl)) i i₂ (rw e₃ at dxs) i₃),
+              λ j r₁ _ e i _ _ o r₂ _ e₂ i₂ h ms xs dxs c ts _ e₃ i₃ _. rw (e, e₂) (a-print (deeper (h refl)) i i₂ (rw e₃ at dxs) i₃),
               (
                 λ w r₁ n e i _ _. (
                   λ c r₂ _ e₂ i₂ _ _ ts s ds. rw (e, e₂) (a-label i i₂ ds),
                   (
                     λ b r₂ _ e₂ i₂ _ _ ts x dx. rw (e, e₂) (an-assignment (a-whole i) i₂ dx),
-                    λ o r₂ _ e₂ i₂ _ h ms x dx c r₃ _ e₃ i₃ _ _ b r₄ _ e₄ i₄ _ _ ts y dy. rw (e, e₂) (an-assignment (an-indexed (deeper (h refl)) i i₂ (rw (e₃, e₄) at dx) i₃) i₄ dy),
+                    λ o r₂ _ e₂ i₂ h ms x dx c r₃ _ e₃ i₃ _ b r₄ _ e₄ i₄ _ ts y dy. rw (e, e₂) (an-assignment (an-indexed (deeper (h refl)) i i₂ (rw (e₃, e₄) at dx) i₃) i₄ dy),
                   ),
                 ),
-                λ w rs _ e i _ _. rw e (a-stop i),
+                λ w rs _ e i _. rw e (a-stop i),
               ),
             ),
           ),
@@ -163,8 +163,8 @@ module _ (limit d : ℕ) (ws : List Word) where
 
   bound-yields : Yields limit (From (a bound)) d ws bound-script
   bound-yields = (
-    λ w rs s e i _ _ v ms n e₂ i₂ _ _. rw (e, e₂) (a-signed-bound i i₂),
-    λ w rs n e i _ _. rw e (a-plain-bound i),
+    λ w rs s e i _ _ v ms n e₂ i₂ _. rw (e, e₂) (a-signed-bound i i₂),
+    λ w rs n e i _. rw e (a-plain-bound i),
   )
 
   row-yields : (p : Part) → Yields limit (From (a p)) d ws (part-script p) → Yields limit (From (row p)) d ws (phrase-script (row p))
@@ -172,20 +172,20 @@ module _ (limit d : ℕ) (ws : List Word) where
 
   group-yields : Yields limit (From (a group)) d ws group-script
   group-yields = yields-within limit (phrase-script (row identifier)) group-bounds (From (row identifier)) (From (a group)) d ws
-      (λ ms xs dxs o r₁ _ e i _ h ns x dx c r₂ _ e₂ i₂ _ _ ns₂ y dy b ts _ e₃ i₃ _ _. a-group (deeper (h refl)) (rw e at dxs) i (rw e₂ at dx) i₂ (rw e₃ at dy) i₃)
+      (λ ms xs dxs o r₁ _ e i h ns x dx c r₂ _ e₂ i₂ _ ns₂ y dy b ts _ e₃ i₃ _. a-group (deeper (h refl)) (rw e at dxs) i (rw e₂ at dx) i₂ (rw e₃ at dy) i₃)
       (row-yields identifier name-yields)
 
   item-yields : Yields limit (From (a item)) d ws item-script
   item-yields = (
     λ w rs _ e i _ _. rw e (a-comment i),
     (
-      λ w r₁ _ e i _ _ o r₂ _ e₂ i₂ _ h ms xs dxs c ts _ e₃ i₃ _ _. rw (e, e₂) (integers (deeper (h refl)) i i₂ (rw e₃ at dxs) i₃),
+      λ w r₁ _ e i _ _ o r₂ _ e₂ i₂ h ms xs dxs c ts _ e₃ i₃ _. rw (e, e₂) (integers (deeper (h refl)) i i₂ (rw e₃ at dxs) i₃),
       (
-        λ w r₁ _ e i _ _ o r₂ _ e₂ i₂ _ h ms xs dxs c ts _ e₃ i₃ _ _. rw (e, e₂) (booleans (deeper (h refl)) i i₂ (rw e₃ at dxs) i₃),
+        λ w r₁ _ e i _ _ o r₂ _ e₂ i₂ h ms xs dxs c ts _ e₃ i₃ _. rw (e, e₂) (booleans (deeper (h refl)) i i₂ (rw e₃ at dxs) i₃),
         (
-          λ w r₁ _ e i _ _ o r₂ _ e₂ i₂ _ h ms gs dgs c ts _ e₃ i₃ _ _. rw (e, e₂) (arrays (deeper (h refl)) i i₂ (rw e₃ at dgs) i₃),
+          λ w r₁ _ e i _ _ o r₂ _ e₂ i₂ h ms gs dgs c ts _ e₃ i₃ _. rw (e, e₂) (arrays (deeper (h refl)) i i₂ (rw e₃ at dgs) i₃),
           (
-            λ w r₁ _ e i _ _ v r₂ n e₂ i₂ _ _ b r₃ _ e₃ i₃ _ _ o r₄ _ e₄ i₄ _ h ms xs dxs c ts _ e₅ i₅ _ _.
+            λ w r₁ _ e i _ _ v r₂ n e₂ i₂ _ b r₃ _ e₃ i₃ _ o r₄ _ e₄ i₄ h ms xs dxs c ts _ e₅ i₅ _.
                 rw (e, e₂, e₃, e₄) (a-switch (deeper (h refl)) i i₂ i₃ i₄ (rw e₅ at dxs) i₅),
             yields-within limit statement-script statement-item (From (a statement)) (From (a item)) d ws (λ rs s ds. an-action ds) statement-yields,
           ),

@@ -39,10 +39,13 @@ named n p = record { letters = n; place = p }
 abbrev pub name-script : Script (a identifier)
 name-script = word a-name λ n p. done (named n p)
 
+abbrev pub variable-rest : Name → Script (a variable)
+variable-rest x =
+    either (the-mark OpenSquare) (λ _ _. part (begin (a exp)) λ i. word (the-mark CloseSquare) λ _ _. done (indexed x i))
+    (done (whole x))
+
 abbrev pub variable-script : Script (a variable)
-variable-script = word a-name λ n p.
-    either (the-mark OpenSquare) (λ _ _. part (begin (a exp)) λ i. word (the-mark CloseSquare) λ _ _. done (indexed (named n p) i))
-    (done (whole (named n p)))
+variable-script = word a-name λ n p. variable-rest (named n p)
 
 -- factor: behind `(`, with its place; behind the first expression of a bracket.
 abbrev pub variable-factor : Value (a variable) → Script (a factor)
@@ -212,7 +215,7 @@ opened (within s f) = within s f
 -- What stands around a script: nothing, or a script that waits for its tree, with the levels that were open there.
 pub data Around : Phrase → Type 0 where
   nothing : Around program
-  waiting : {p q : Phrase} (d : ℕ) (f : Value q → Script p) (k : Around p) → Around q
+  waiting : {p : Phrase} (q : Phrase) (d : ℕ) (f : Value q → Script p) (k : Around p) → Around q
 
 -- The open levels, the script in hand and what stands around it.
 pub data State : Type 0 where
@@ -249,7 +252,7 @@ meets t b (within s f) = met-within f (λ v. meets t b (f v)) (meets t b s)
 -- The state behind a word that was taken, with d levels open before it and e behind it.
 abbrev pub entered : {p : Phrase} → ℕ → ℕ → Taken p → Around p → State
 entered d e (here s) k = at e s k
-entered d e (inside t f) k = entered d e t (waiting d f k)
+entered d e (inside {q = q} t f) k = entered d e t (waiting q d f k)
 
 abbrev pub met : {p : Phrase} → ℕ → ℕ → Around p → (Value p → Option State) → Met p → Option State
 met d e k next (takes t) = Some (entered d e t k)
@@ -259,7 +262,7 @@ met d e k next refuses = None
 -- A part is done, and a word comes.
 abbrev pub after : {p : Phrase} → Around p → Value p → Token → ℕ → Option State
 after nothing v t b = None
-after (waiting d f k) v t b = met d (levels-after t d) k (λ u. after k u t b) (meets t b (opened (f v)))
+after (waiting q d f k) v t b = met d (levels-after t d) k (λ u. after k u t b) (meets t b (opened (f v)))
 
 -- A word comes.
 abbrev pub moved : State → Token → ℕ → Option State
@@ -280,7 +283,7 @@ ended (within s f) = then-ended (λ v. ended (f v)) (ended s)
 
 abbrev pub ended-around : {p : Phrase} → Around p → Value p → Option Program
 ended-around nothing v = Some v
-ended-around (waiting d f k) v = then-ended (λ u. ended-around k u) (ended (opened (f v)))
+ended-around (waiting q d f k) v = then-ended (λ u. ended-around k u) (ended (opened (f v)))
 
 abbrev pub finished : State → Option Program
 finished (at d s k) = then-ended (λ v. ended-around k v) (ended (opened s))

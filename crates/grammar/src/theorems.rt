@@ -1,7 +1,7 @@
 // What is proved of the grammar and of the defined reading.
 
 ghost use Rattle.grammar.specs.Examples.{Ranks, Repetition, Early-end, Impossible-word, Too-deep, Closed-levels};
-ghost use Rattle.grammar.specs.Meaning.{Sound};
+ghost use Rattle.grammar.specs.Meaning.{Sound, Complete};
 
 // A few texts, read by the definitions.
 pub fn examples() -> u8
@@ -18,6 +18,13 @@ pub fn examples() -> u8
 // Every tree that is read derives from the words.
 pub fn reading_is_sound() -> u8
     ensures { λ _. ⌜ Sound ⌝ }
+{
+    0
+}
+
+// Every sentence within the limit is read to its tree.
+pub fn reading_is_complete() -> u8
+    ensures { λ _. ⌜ Complete ⌝ }
 {
     0
 }
