@@ -4,3 +4,5 @@ pub mod Sound
 pub mod Steps
 pub mod Ranks
 pub mod Complete
+pub mod Completion
+pub mod Refusals

@@ -63,7 +63,7 @@ of-lower-rank m q h x = lowered (q - m) m q refl h x
 ranked-up-to : (r q : ℕ) {l : ℕ} {es ws : List Word} {x : Exp} → r ≤ q → Derives (a (ranked q)) l es ws x → Ranked r q l es ws x
 ranked-up-to r q h x = record { at-least = of-lower-rank r q h x; up-to = λ m _ k. of-lower-rank m q k x }
 
-of-any-rank : (r : ℕ) {l : ℕ} {ws rs : List Word} {x : Exp} → Derives (a factor) l ws rs x → Derives (a (ranked r)) l ws rs x
+pub of-any-rank : (r : ℕ) {l : ℕ} {ws rs : List Word} {x : Exp} → Derives (a factor) l ws rs x → Derives (a (ranked r)) l ws rs x
 of-any-rank r x = of-lower-rank r (r + 7) (omega arith) (a-factor (omega arith) x)
 
 separator-levels : (p : Part) (d : ℕ) → levels-after (mark (separator p)) d ≡ d

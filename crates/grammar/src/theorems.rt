@@ -1,7 +1,7 @@
 // What is proved of the grammar and of the defined reading.
 
 ghost use Rattle.grammar.specs.Examples.{Ranks, Repetition, Early-end, Impossible-word, Too-deep, Closed-levels};
-ghost use Rattle.grammar.specs.Meaning.{Sound, Complete};
+ghost use Rattle.grammar.specs.Meaning.{Sound, Complete, Unambiguous, Five, Six, Early};
 
 // A few texts, read by the definitions.
 pub fn examples() -> u8
@@ -25,6 +25,23 @@ pub fn reading_is_sound() -> u8
 // Every sentence within the limit is read to its tree.
 pub fn reading_is_complete() -> u8
     ensures { λ _. ⌜ Complete ⌝ }
+{
+    0
+}
+
+// Refusal 5 names the first word with which no sentence can go on, or an early end; refusal 6 a word that opens a
+// level too many.
+pub fn refusals_are_right() -> u8
+    ensures five { λ _. ⌜ Five ⌝ }
+    ensures six { λ _. ⌜ Six ⌝ }
+    ensures early { λ _. ⌜ Early ⌝ }
+{
+    0
+}
+
+// A sentence has one tree.
+pub fn sentences_have_one_tree() -> u8
+    ensures { λ _. ⌜ Unambiguous ⌝ }
 {
     0
 }
