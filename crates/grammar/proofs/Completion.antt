@@ -67,10 +67,11 @@ part-words variable = record { words = a-word (name (120 ∷ [])) ∷ []; tree =
 part-words identifier = record { words = a-word (name (120 ∷ [])) ∷ []; tree = record { letters = 120 ∷ []; place = 0 }; levels = 0; derives = λ limit d rs h. name-derives refl }
 part-words bound = record { words = a-word (number 0) ∷ []; tree = record { sign = Plus; size = 0 }; levels = 0; derives = λ limit d rs h. a-plain-bound refl }
 part-words group = record {
-    words = a-word (name (120 ∷ [])) ∷ a-word (mark OpenSquare) ∷ a-word (number 0) ∷ a-word (mark Colon) ∷ a-word (number 0) ∷ a-word (mark CloseSquare) ∷ [];
-    tree = record { names = one (record { letters = 120 ∷ []; place = 0 }); bracket = 0; low = record { sign = Plus; size = 0 }; high = record { sign = Plus; size = 0 } };
-    levels = 1;
-    derives = λ limit d rs h. a-group {l = limit - suc d} (omega arith) (alone (name-derives refl)) refl (a-plain-bound refl) refl (a-plain-bound refl) refl }
+  words = a-word (name (120 ∷ [])) ∷ a-word (mark OpenSquare) ∷ a-word (number 0) ∷ a-word (mark Colon) ∷ a-word (number 0) ∷ a-word (mark CloseSquare) ∷ [];
+  tree = record { names = one (record { letters = 120 ∷ []; place = 0 }); bracket = 0; low = record { sign = Plus; size = 0 }; high = record { sign = Plus; size = 0 } };
+  levels = 1;
+  derives = λ limit d rs h. a-group {l = limit - suc d} (omega arith) (alone (name-derives refl)) refl (a-plain-bound refl) refl (a-plain-bound refl) refl;
+}
 part-words element = record { words = a-word (number 0) ∷ []; tree = single (literal 0 0); levels = 0; derives = λ limit d rs h. a-single (of-any-rank 1 (number-derives refl)) }
 part-words statement = record { words = a-word (keyword Stop) ∷ []; tree = stop 0; levels = 0; derives = λ limit d rs h. a-stop refl }
 part-words item = record { words = a-word (keyword Stop) ∷ []; tree = action (stop 0); levels = 0; derives = λ limit d rs h. an-action (a-stop refl) }
@@ -98,20 +99,35 @@ script-words (done v) = record { words = []; tree = v; levels = 0; yields = λ l
 script-words (word c y) =
     let r = script-words (y (sample c) 0) in
     let w = a-word (token-of c (sample c)) in
-    record { words = w ∷ r .words; tree = r .tree; levels = suc (r .levels); yields = λ limit R d rs h f.
-      r .yields limit R (class-levels c d) rs (omega (arith, class-grows c d)) (f w (r .words ++ rs) (sample c) refl refl (λ _. omega (arith, class-grows c d))) }
+    record {
+      words = w ∷ r .words;
+      tree = r .tree;
+      levels = suc (r .levels);
+      yields = λ limit R d rs h f.
+          r .yields limit R (class-levels c d) rs (omega (arith, class-grows c d)) (f w (r .words ++ rs) (sample c) refl refl (λ _. omega (arith, class-grows c d)));
+    }
 script-words (either c y n) = let r = script-words n in record { words = r .words; tree = r .tree; levels = r .levels; yields = λ limit R d rs h f. r .yields limit R d rs h (f .1) }
 script-words (part g f) =
     let u = goal-words g in
     let r = script-words (f (u .tree)) in
-    record { words = u .words ++ r .words; tree = r .tree; levels = u .levels + r .levels; yields = λ limit R d rs h k.
-      r .yields limit R d rs (omega arith) (k (r .words ++ rs) (u .tree) (rw append-assoc (u .reaches limit d (r .words ++ rs) (omega arith)))) }
+    record {
+      words = u .words ++ r .words;
+      tree = r .tree;
+      levels = u .levels + r .levels;
+      yields = λ limit R d rs h k.
+          r .yields limit R d rs (omega arith) (k (r .words ++ rs) (u .tree) (rw append-assoc (u .reaches limit d (r .words ++ rs) (omega arith))));
+    }
 script-words (goto g) = let u = goal-words g in record { words = u .words; tree = u .tree; levels = u .levels; yields = λ limit R d rs h k. k rs (u .tree) (u .reaches limit d rs h) }
 script-words (within s f) =
     let u = script-words s in
     let r = script-words (f (u .tree)) in
-    record { words = u .words ++ r .words; tree = r .tree; levels = u .levels + r .levels; yields = λ limit R d rs h k.
-      r .yields limit R d rs (omega arith) (u .yields limit (λ ms v. Yields limit R d ms (f v)) d (r .words ++ rs) (omega arith) (rw append-assoc at k)) }
+    record {
+      words = u .words ++ r .words;
+      tree = r .tree;
+      levels = u .levels + r .levels;
+      yields = λ limit R d rs h k.
+          r .yields limit R d rs (omega arith) (u .yields limit (λ ms v. Yields limit R d ms (f v)) d (r .words ++ rs) (omega arith) (rw append-assoc at k));
+    }
 
 record Around-words {p : Phrase} (k : Around p) (v : Value p) : Type 0 where
   words : List Word
@@ -124,8 +140,13 @@ around-words nothing v = record { words = []; tree = v; levels = 0; derives = λ
 around-words (waiting q d f k) v =
     let u = script-words (f v) in
     let r = around-words k (u .tree) in
-    record { words = u .words ++ r .words; tree = r .tree; levels = (d + u .levels) + r .levels; derives = λ limit all h m.
-      r .derives limit all (omega arith) (u .yields limit (λ rs x. Meant limit all k rs x) d (r .words) (omega arith) m) }
+    record {
+      words = u .words ++ r .words;
+      tree = r .tree;
+      levels = (d + u .levels) + r .levels;
+      derives = λ limit all h m.
+          r .derives limit all (omega arith) (u .yields limit (λ rs x. Meant limit all k rs x) d (r .words) (omega arith) m);
+    }
 
 -- Words with which a state goes on to a sentence.
 pub record State-words (s : State) : Type 0 where
@@ -138,5 +159,10 @@ pub state-words : (s : State) → State-words s
 state-words (at d s k) =
     let u = script-words s in
     let r = around-words k (u .tree) in
-    record { words = u .words ++ r .words; tree = r .tree; levels = (d + u .levels) + r .levels; derives = λ limit all h m.
-      r .derives limit all (omega arith) (u .yields limit (λ rs x. Meant limit all k rs x) d (r .words) (omega arith) m) }
+    record {
+      words = u .words ++ r .words;
+      tree = r .tree;
+      levels = (d + u .levels) + r .levels;
+      derives = λ limit all h m.
+          r .derives limit all (omega arith) (u .yields limit (λ rs x. Meant limit all k rs x) d (r .words) (omega arith) m);
+    }

@@ -6,3 +6,4 @@ pub mod Ranks
 pub mod Complete
 pub mod Completion
 pub mod Refusals
+pub mod Names

@@ -98,9 +98,10 @@ no-operator r q (w ∷ ws) h = by (operator-of (w .token)) refl
     none : (o : Operator) (x : Option Operator) → operator-of (w .token) ≡ Some o → between-ranks r q (Some o) ≡ x → x ≡ None
     none o None e i = refl
     none o (Some u) e i =
-      let j = between-ranks-some r q (Some o) u i in
-      let k : o ≡ u = some-same (j .0) in
-      absurd (h u (ap rank-of (e ∙ ap Some k)) (j .1) (j .2))
+        let j = between-ranks-some r q (Some o) u i in
+        let k : o ≡ u = some-same (j .0) in
+        absurd (h u (ap rank-of (e ∙ ap Some k)) (j .1) (j .2))
+
     by : (x : Option Operator) → operator-of (w .token) ≡ x → between-ranks r q x ≡ None
     by None e = refl
     by (Some o) e = none o (between-ranks r q (Some o)) e refl
@@ -113,9 +114,9 @@ same-operator r q m (w ∷ ws) h k = by (operator-of (w .token)) h k
     by : (x : Option Operator) → rank-of x ≤ q → rank-of x ≤ m → between-ranks r q x ≡ between-ranks r m x
     by None h k = refl
     by (Some o) h k =
-      let i : leb (rank o) q ≡ true = le-leb (rank o) q h in
-      let j : leb (rank o) m ≡ true = le-leb (rank o) m k in
-      ap (λ b. cond (leb r (rank o)) (when b o) None) (i ∙ sym j)
+        let i : leb (rank o) q ≡ true = le-leb (rank o) q h in
+        let j : leb (rank o) m ≡ true = le-leb (rank o) m k in
+        ap (λ b. cond (leb r (rank o)) (when b o) None) (i ∙ sym j)
 
 pub head-at-most-6 : (ws : List Word) → head-rank ws ≤ 6
 head-at-most-6 [] = omega arith

@@ -61,7 +61,7 @@ steps-begin {limit} {q} {ws} x =
 pub data Reason (limit end : ℕ) (s : State) : List Word → ℕ → ℕ → Type 0 where
   no-move : (before after : List Word) (w : Word) (q : State) → Steps limit s before q → moved q (w .token) (w .place) ≡ None → Reason limit end s (before ++ w ∷ after) 5 (w .place)
   no-level : (before after : List Word) (w : Word) (q r : State) → Steps limit s before q → moved q (w .token) (w .place) ≡ Some r → opens (w .token) ≡ true → limit < levels r
-    → Reason limit end s (before ++ w ∷ after) 6 (w .place)
+      → Reason limit end s (before ++ w ∷ after) 6 (w .place)
   no-end : (ws : List Word) (q : State) → Steps limit s ws q → finished q ≡ None → Reason limit end s ws 5 end
 
 reason-step : {limit end : ℕ} {s r : State} {ws : List Word} {n p : ℕ} (w : Word) → moved s (w .token) (w .place) ≡ Some r → (opens (w .token) ≡ true → levels r ≤ limit) → Reason limit end r ws n p → Reason limit end s (w ∷ ws) n p
@@ -91,7 +91,7 @@ module _ (limit end : ℕ) where
   answered (w ∷ ws) s = next (moved s (w .token) (w .place)) refl (λ q. answered ws q)
     where
       checked : (o l : Bool) (q : State) → opens (w .token) ≡ o → leb (levels q) limit ≡ l → moved s (w .token) (w .place) ≡ Some q → Answer limit end q ws (run limit end ws q)
-        → Answer limit end s (w ∷ ws) (cond o (cond l (run limit end ws q) (refused 6 (w .place))) (run limit end ws q))
+          → Answer limit end s (w ∷ ws) (cond o (cond l (run limit end ws q) (refused 6 (w .place))) (run limit end ws q))
       checked true true q i j m rec = answer-step w m (λ _. leb-true (levels q) limit j) rec
       checked true false q i j m rec = refusal 6 (w .place) (no-level [] ws w s q none m i (leb-false (levels q) limit j))
       checked false l q i j m rec = answer-step w m (λ o. false-true i o) rec
@@ -139,17 +139,23 @@ no-level-deep {limit} {q} {r} before w x m o h more t y =
     let same : all ≡ before ++ (w ∷ more) = append-assoc before (w ∷ []) more in
     let u = run-steps 0 (w ∷ more) x in
     let g : run limit 0 (w ∷ more) q ≡ refused 6 (w .place) =
-      ap (λ y. onward limit (w .place) (opens (w .token)) (λ z. run limit 0 more z) y) m
-      ∙ (ap (λ b. cond b (cond (leb (levels r) limit) (run limit 0 more r) (refused 6 (w .place))) (run limit 0 more r)) o
-      ∙ ap (λ b. cond b (run limit 0 more r) (refused 6 (w .place))) (lt-leb (levels r) limit h)) in
+    ap (λ y. onward limit (w .place) (opens (w .token)) (λ z. run limit 0 more z) y) m
+    ∙ (ap (λ b. cond b (cond (leb (levels r) limit) (run limit 0 more r) (refused 6 (w .place))) (run limit 0 more r)) o
+    ∙ ap (λ b. cond b (run limit 0 more r) (refused 6 (w .place))) (lt-leb (levels r) limit h)) in
     tree-refused d (ap (λ z. run limit 0 z initial) same ∙ (u ∙ g))
 
 pub six : {limit end : ℕ} {ws : List Word} {n p : ℕ} → n ≡ 6 → Reason limit end initial ws n p → Too-deep limit ws p
 six e (no-move before after w q x m) = absurd (omega arith)
 six {limit} e (no-level before after w q r x m o h) = record {
-    before = before; word = w; after = after; whole = refl; place = refl; opening = o;
-    possible = steps-begin (steps-more {limit = limit + levels r} w (steps-up (omega arith) x) m (λ _. omega arith));
-    deep = no-level-deep before w x m o h }
+  before = before;
+  word = w;
+  after = after;
+  whole = refl;
+  place = refl;
+  opening = o;
+  possible = steps-begin (steps-more {limit = limit + levels r} w (steps-up (omega arith) x) m (λ _. omega arith));
+  deep = no-level-deep before w x m o h;
+}
 six e (no-end ws q x f) = absurd (omega arith)
 
 -- What begins a sentence begins it with each of its first words.
@@ -169,6 +175,7 @@ early limit end ws u = by (parsed limit end ws) refl (answered limit end ws init
   where
     z : limit - 0 ≡ limit
     z = omega arith
+
     by : (o : Outcome) → parsed limit end ws ≡ o → Answer limit end initial ws o → (parsed limit end ws ≡ refused 5 end) ⊎ ((p : ℕ) × (parsed limit end ws ≡ refused 6 p))
     by o e (read t) = absurd (u .unfinished limit t (run-at limit ws t end ws initial (λ rs v h. rw z at h) e))
     by o e (refusal n p x) = early-reason u e x

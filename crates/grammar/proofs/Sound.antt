@@ -42,15 +42,15 @@ module _ (limit : ℕ) where
     Meets R d refuses = Unit {0}
 
     found-meets : {p : Phrase} (R : List Word → Value p → Type 0) (d : ℕ) (c : Class) (y : Content c → ℕ → Script p) (n : Met p) (o : Option (Content c)) → found c (w .token) ≡ o
-      → ((x : Content c) → w .token ≡ token-of c x → In-rank c x → (class-opens c ≡ true → class-levels c d ≤ limit) → Yields limit R (class-levels c d) rs (y x (w .place)))
-      → Meets R d n → Meets R d (if-found (λ x. y x (w .place)) n o)
+        → ((x : Content c) → w .token ≡ token-of c x → In-rank c x → (class-opens c ≡ true → class-levels c d ≤ limit) → Yields limit R (class-levels c d) rs (y x (w .place)))
+        → Meets R d n → Meets R d (if-found (λ x. y x (w .place)) n o)
     found-meets R d c y n None e h k = k
     found-meets R d c y n (Some x) e h k = λ room.
-      let i = found→is c (w .token) x e in
-      let l = token-levels c x d in
-      let o : opens (w .token) ≡ class-opens c = ap opens (i .0) ∙ l .0 in
-      let m : levels-after (w .token) d ≡ class-levels c d = ap (λ t. levels-after t d) (i .0) ∙ l .1 in
-      rw m (h x (i .0) (i .1) (λ u. rw m at (room (o ∙ u))))
+        let i = found→is c (w .token) x e in
+        let l = token-levels c x d in
+        let o : opens (w .token) ≡ class-opens c = ap opens (i .0) ∙ l .0 in
+        let m : levels-after (w .token) d ≡ class-levels c d = ap (λ t. levels-after t d) (i .0) ∙ l .1 in
+        rw m (h x (i .0) (i .1) (λ u. rw m at (room (o ∙ u))))
 
     within-meets : {p q : Phrase} (R : List Word → Value p → Type 0) (d : ℕ) (f : Value q → Script p) (next : Value q → Met p) (m : Met q) → Meets (λ ms v. Yields limit R d ms (f v)) d m
         → ((v : Value q) → Yields limit R d (w ∷ rs) (f v) → Meets R d (next v)) → Meets R d (met-within f next m)

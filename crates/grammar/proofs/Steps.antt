@@ -90,8 +90,10 @@ module _ {limit end : ℕ} where
 
   -- So they do on words whose first is given.
   pub alike-on : {w : Word} {t : Token} {ws : List Word} {s q : State} → w .token ≡ t → moved s t (w .place) ≡ moved q t (w .place) → Leads limit end (w ∷ ws) s (w ∷ ws) q
-  alike-on {w} {t} {ws} {s} {q} e f = record { same = ap (λ o. onward limit (w .place) (opens (w .token)) (λ r. run limit end ws r) o)
-    (ap (λ u. moved s u (w .place)) e ∙ (f ∙ sym (ap (λ u. moved q u (w .place)) e))) }
+  alike-on {w} {t} {ws} {s} {q} e f = record {
+    same = ap (λ o. onward limit (w .place) (opens (w .token)) (λ r. run limit end ws r) o)
+        (ap (λ u. moved s u (w .place)) e ∙ (f ∙ sym (ap (λ u. moved q u (w .place)) e)));
+  }
 
   -- A part that is done hands its tree on.
   pub handed-on : {p q : Phrase} {ws : List Word} {d e : ℕ} {v : Value q} {f : Value q → Script p} {k : Around p} → Leads limit end ws (at d (done v) (waiting q e f k)) ws (at e (f v) k)
@@ -103,36 +105,40 @@ module _ {limit end : ℕ} where
 
   -- A goal is read with the rest of the script waiting.
   pub part-waits : {p q : Phrase} {ws : List Word} {d : ℕ} {g : Goal q} {f : Value q → Script p} {k : Around p} → Fresh (start g)
-    → Leads limit end ws (at d (part g f) k) ws (at d (goto g) (waiting q d f k))
+      → Leads limit end ws (at d (part g f) k) ws (at d (goto g) (waiting q d f k))
   part-waits {q = q} {d = d} {g = g} {f = f} {k = k} h = alike (λ t b. within-moves d (start g) f k t b h)
-    (ap (λ o. then-ended (λ v. ended-around k v) (then-ended (λ v. ended (f v)) o)) (fresh-ended (start g) h)
+      (ap (λ o. then-ended (λ v. ended-around k v) (then-ended (λ v. ended (f v)) o)) (fresh-ended (start g) h)
       ∙ sym (ap (λ o. then-ended (λ v. ended-around (waiting q d f k) v) o) (fresh-ended (start g) h)))
 
   -- No word of the class comes.
   pub or-done : {p : Phrase} {ws : List Word} {d : ℕ} {c : Class} {y : Content c → ℕ → Script p} {v : Value p} {k : Around p} → heads c ws ≡ None
-    → Leads limit end ws (at d (either c y (done v)) k) ws (at d (done v) k)
+      → Leads limit end ws (at d (either c y (done v)) k) ws (at d (done v) k)
   or-done {ws = ws} {d} {c} {y} {v} {k} h = record { same = by ws h }
     where
       by : (ws : List Word) → heads c ws ≡ None → run limit end ws (at d (either c y (done v)) k) ≡ run limit end ws (at d (done v) k)
       by [] h = refl
       by (w ∷ ws) h = ap (λ o. onward limit (w .place) (opens (w .token)) (λ r. run limit end ws r)
-        (met d (levels-after (w .token) d) k (λ u. after k u (w .token) (w .place)) (if-found (λ x. y x (w .place)) (passes v) o))) h
+          (met d (levels-after (w .token) d) k (λ u. after k u (w .token) (w .place)) (if-found (λ x. y x (w .place)) (passes v) o))) h
 
   -- A word is taken that opens no level.
   pub takes-word : {w : Word} {t : Token} {ws : List Word} {s q : State} → w .token ≡ t → moved s t (w .place) ≡ Some q → opens t ≡ false → Leads limit end (w ∷ ws) s ws q
   takes-word {w} {t} {ws} {s} {q} e m o =
-    let i : moved s (w .token) (w .place) ≡ Some q = ap (λ u. moved s u (w .place)) e ∙ m in
-    let j : opens (w .token) ≡ false = ap opens e ∙ o in
-    record { same = ap (λ x. onward limit (w .place) (opens (w .token)) (λ r. run limit end ws r) x) i
-      ∙ ap (λ b. cond b (cond (leb (levels q) limit) (run limit end ws q) (refused 6 (w .place))) (run limit end ws q)) j }
+      let i : moved s (w .token) (w .place) ≡ Some q = ap (λ u. moved s u (w .place)) e ∙ m in
+      let j : opens (w .token) ≡ false = ap opens e ∙ o in
+      record {
+        same = ap (λ x. onward limit (w .place) (opens (w .token)) (λ r. run limit end ws r) x) i
+            ∙ ap (λ b. cond b (cond (leb (levels q) limit) (run limit end ws q) (refused 6 (w .place))) (run limit end ws q)) j;
+      }
 
   -- A word is taken that opens a level, if one is left.
   pub takes-opening : {w : Word} {t : Token} {ws : List Word} {s q : State} → w .token ≡ t → moved s t (w .place) ≡ Some q → levels q ≤ limit → Leads limit end (w ∷ ws) s ws q
   takes-opening {w} {t} {ws} {s} {q} e m h =
-    let i : moved s (w .token) (w .place) ≡ Some q = ap (λ u. moved s u (w .place)) e ∙ m in
-    let j : leb (levels q) limit ≡ true = le-leb (levels q) limit h in
-    record { same = ap (λ x. onward limit (w .place) (opens (w .token)) (λ r. run limit end ws r) x) i
-      ∙ (ap (λ b. cond (opens (w .token)) (cond b (run limit end ws q) (refused 6 (w .place))) (run limit end ws q)) j ∙ cond-same (opens (w .token)) (run limit end ws q)) }
+      let i : moved s (w .token) (w .place) ≡ Some q = ap (λ u. moved s u (w .place)) e ∙ m in
+      let j : leb (levels q) limit ≡ true = le-leb (levels q) limit h in
+      record {
+        same = ap (λ x. onward limit (w .place) (opens (w .token)) (λ r. run limit end ws r) x) i
+            ∙ (ap (λ b. cond (opens (w .token)) (cond b (run limit end ws q) (refused 6 (w .place))) (run limit end ws q)) j ∙ cond-same (opens (w .token)) (run limit end ws q));
+      }
     where
       cond-same : (b : Bool) (x : Outcome) → cond b x x ≡ x
       cond-same true x = refl

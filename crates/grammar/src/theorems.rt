@@ -1,7 +1,7 @@
 // What is proved of the grammar and of the defined reading.
 
 ghost use Rattle.grammar.specs.Examples.{Ranks, Repetition, Early-end, Impossible-word, Too-deep, Closed-levels};
-ghost use Rattle.grammar.specs.Meaning.{Sound, Complete, Unambiguous, Five, Six, Early};
+ghost use Rattle.grammar.specs.Meaning.{Sound, Complete, Unambiguous, Five, Six, Early, Few-names};
 
 // A few texts, read by the definitions.
 pub fn examples() -> u8
@@ -42,6 +42,13 @@ pub fn refusals_are_right() -> u8
 // A sentence has one tree.
 pub fn sentences_have_one_tree() -> u8
     ensures { λ _. ⌜ Unambiguous ⌝ }
+{
+    0
+}
+
+// A sentence has at most one name more than other words.
+pub fn names_are_few() -> u8
+    ensures { λ _. ⌜ Few-names ⌝ }
 {
     0
 }
