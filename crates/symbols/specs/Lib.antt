@@ -1,2 +1,6 @@
 pub mod Occurrences
 pub mod Symbols
+pub mod Refusal
+pub mod Types
+pub mod Jumps
+pub mod Rules
