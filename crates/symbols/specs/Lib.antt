@@ -4,3 +4,5 @@ pub mod Refusal
 pub mod Types
 pub mod Jumps
 pub mod Rules
+pub mod Texts
+pub mod Examples
