@@ -40,4 +40,15 @@ expect 1 'ial: the size after --group is a number from 1 to 64' roll pairs.roll 
 expect 1 'ial: `roll` takes FILE and --group G; `ial help` explains the commands' roll
 expect 1 'ial: there is no such command; `ial help` explains the commands' valuate
 
+cp crates/ial/data/sum.code crates/ial/data/refused.code "$dir"
+printf 'abc' > "$dir/short.code"
+printf '\1\0\0\0\0\0\0\0\0\0\0\0\0\0\0\0\1\0\0\0\0\0\0\0\0' > "$dir/mark.code"
+expect 0 'passes: n 31, named cells 4, cells 4, depth 2' check sum.code
+expect 1 'refused 25 at operation 26: jump, ROWS or place 0 against its rule' check refused.code
+expect 1 'refused 27: file is not 16 + 9n bytes' check short.code
+expect 1 'refused 26 at operation 0: last operation is neither HALT nor JUMP' check mark.code
+expect 0 $'n 1, named cells 0, cells 0, depth 0\n     0  MARK   text 0\n     ^  refused 26: last operation is neither HALT nor JUMP' list mark.code
+expect 1 'refused 27: file is not 16 + 9n bytes' list short.code
+expect 1 'ial: `list` takes a FILE of stored code; `ial help` explains the commands' list
+
 exit $failed

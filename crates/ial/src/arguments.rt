@@ -6,6 +6,10 @@ pub enum Command<'a> {
     Help,
     // `roll FILE [--group G]`
     Roll { file: &'a str, group: Option<usize> },
+    // `check FILE`
+    Check { file: &'a str },
+    // `list FILE`
+    List { file: &'a str },
 }
 
 // The command that the words say, the first of which is the program's own name.
@@ -15,6 +19,18 @@ pub fn parse<'a>(words: &'a [String]) -> Result<Command<'a>, Failure> {
         [_, name, rest @ ..] => match name.as_str() {
             "help" | "--help" | "-h" => Ok(Command::Help),
             "roll" => parse_roll(rest),
+            "check" => match rest {
+                [file] => Ok(Command::Check {
+                    file: file.as_str(),
+                }),
+                _ => Err(Failure::Usage("`check` takes a FILE of stored code")),
+            },
+            "list" => match rest {
+                [file] => Ok(Command::List {
+                    file: file.as_str(),
+                }),
+                _ => Err(Failure::Usage("`list` takes a FILE of stored code")),
+            },
             _ => Err(Failure::Usage("there is no such command")),
         },
     }

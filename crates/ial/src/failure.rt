@@ -17,6 +17,8 @@ pub enum Failure {
     GroupSize(u8),
     NoMemory,
     Output,
+    // a refusal that the report has told already
+    Told,
 }
 
 pub impl fmt::Display for Failure as FailureDisplay {
@@ -28,9 +30,13 @@ pub impl fmt::Display for Failure as FailureDisplay {
                 write!(f, "{file}: the file cannot be read")
             }
             Failure::NoNumber => f.write_str("the size after --group is a number from 1 to 64"),
-            Failure::GroupSize(number) => write!(f, "refused {number}: a group has 1 to 64 figures"),
+            Failure::GroupSize(number) => write!(
+                f,
+                "refused {number}: a group has 1 to 64 figures"
+            ),
             Failure::NoMemory => f.write_str("there is not enough memory"),
             Failure::Output => f.write_str("reading or writing failed"),
+            Failure::Told => f.write_str("refused"),
         }
     }
 }

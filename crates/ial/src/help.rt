@@ -9,6 +9,10 @@ const TEXT: &str = "ial: fund rules in IAL, translated and run with proof
                               it holds, their total and how it ends; with
                               --group, without the groups of G figures whose
                               first figure is 0 (those who have left)
+  ial check FILE              check a file of stored code and print its sizes,
+                              or the refusal with the operation's number
+  ial list FILE               list a file of stored code, an operation a line,
+                              and mark the operation that the check refuses
   ial help                    print this
 
 A roll file holds one whole figure a line: an optional minus sign and 1 to 10

@@ -1,17 +1,20 @@
 // The program `ial`: arguments in, reports out; the work is done by the libraries.
 
 mod arguments;
+mod check;
 mod failure;
 mod help;
+mod list;
+mod loaded;
 mod roll;
 mod visible;
 
+use crate::failure::FailureDisplay;
+use crate::failure::FailureFromIo;
+use crate::failure::FailureFromRefused;
 use arguments::Command;
 use failure::Failure;
 use std::env;
-use crate::failure::FailureFromIo;
-use crate::failure::FailureFromRefused;
-use crate::failure::FailureDisplay;
 
 fn run(rt: &LibcRuntime) -> Result<(), Failure> {
     let mut words = Vec::new(rt.alloc());
@@ -21,12 +24,15 @@ fn run(rt: &LibcRuntime) -> Result<(), Failure> {
     match arguments::parse(words.as_slice())? {
         Command::Help => help::print(rt),
         Command::Roll { file, group } => roll::report(rt, file, group),
+        Command::Check { file } => check::report(rt, file),
+        Command::List { file } => list::report(rt, file),
     }
 }
 
 fn main(rt: LibcRuntime) -> Result<(), Failure> {
     match run(&rt) {
         Ok(()) => Ok(()),
+        Err(Failure::Told) => Err(Failure::Told),
         Err(failure) => {
             let _ = eprintln!(rt, "ial: {failure}");
             Err(failure)

@@ -68,7 +68,7 @@ module _ {F : Type 0} where
     pub dropped-after : is-zero x ≡ true → filtered is-zero (suc g) 0 (past g (rest c)) ≡ filtered is-zero (suc g) 0 c
     dropped-after gone =
         sym (ap (λ xs. record { figures = xs; ending = c .ending })
-          (ap (λ xs. stayers is-zero (groups (suc g) xs)) (took-first c x given) ∙ stayers-dropped is-zero g x later gone))
+        (ap (λ xs. stayers is-zero (groups (suc g) xs)) (took-first c x given) ∙ stayers-dropped is-zero g x later gone))
 
     -- The roll gets shorter, so that the filter comes to an end.
     pub dropped-shorter : length (past g (rest c) .figures) < length (c .figures)

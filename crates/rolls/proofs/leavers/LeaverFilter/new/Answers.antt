@@ -17,6 +17,6 @@ returns g c =
       size = (omega arith, omega arith);
       holds = ap (λ k. kept z k held) whole;
       keeps =
-        subst (λ k. Keeps z group (held .figures) (stayers z (groups k (held .figures)))) (sym whole)
+          subst (λ k. Keeps z group (held .figures) (stayers z (groups k (held .figures)))) (sym whole)
           (keeps-stayers z group (omega arith) (held .figures));
     }

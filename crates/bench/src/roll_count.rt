@@ -1,4 +1,4 @@
-// The text roll behind a C function, so that a harness in another language can time it.
+// The text roll.
 
 ghost use mathlib.Core.Path.{_≡_};
 ghost use Prim.Native.Nat.{_-_, _^_, min};
