@@ -23,7 +23,8 @@ use Rattle.words.specs.Token.{Token, Word, name, number, keyword}
 use Rattle.words.specs.Spelling.{Fixed, two-byte-marks, one-byte-marks, reserved-words, blank, Made-of, not-semicolon, value-of}
 use Rattle.std.specs.shelf.Text.{sameBytes}
 use Rattle.words.specs.Words.{Found, found, nothing, exactly, first-of, mark-at, name-at, number-at, name-token, short, skipped, word-at, Next, next-word, next-refused, next-of, end, longest-at}
-use Rattle.words.specs.Records.{token-in, next-in, mark-or, keyword-or, Is-mark}
+use Rattle.words.specs.Records.{token-in, next-in}
+use Rattle.words.specs.Inner.{mark-or, keyword-or, Is-mark}
 use Rattle.words.specs.declared.token.Token.{Token as TokenRecord}
 use Rattle.words.specs.declared.token.Token.the-variants.{Name, Number, Keyword, Mark, Sign, Scaling, Relation}
 use Rattle.words.specs.declared.token.Keyword.{Keyword as KeywordRecord}

@@ -1,9 +1,9 @@
 pub mod Token
 pub mod Refusal
 pub mod Spelling
-pub mod Classes
 pub mod Words
 pub mod Records
+pub mod Inner
 pub mod Reading
 pub mod Table
 pub mod Cases

@@ -66,6 +66,10 @@ short (relation r) n = true
 abbrev pub skipped : List ℕ → List ℕ → ℕ
 skipped s rest = cond (sameBytes s (codes "comment")) (leading not-semicolon rest) 0
 
+-- A word of n bytes at the front, with what it skips, takes so many bytes.
+abbrev pub passed : ℕ → List ℕ → ℕ
+passed n bs = n + skipped (take n bs) (drop n bs)
+
 -- What comes next: the end, a word with the place and the bytes after it and what it skips, or a refusal.
 pub data Next : Type 0 where
   end : Next
@@ -77,7 +81,7 @@ abbrev pub word-at : ℕ → List ℕ → Found → Next
 word-at p bs nothing = next-refused NoWord p
 word-at p bs (found t n) =
     cond (short t n)
-    (next-word (record { token = t; place = p }) (p + (n + skipped (take n bs) (drop n bs))) (drop (n + skipped (take n bs) (drop n bs)) bs))
+    (next-word (record { token = t; place = p }) (p + passed n bs) (drop (passed n bs) bs))
     (next-refused WordTooLong p)
 
 -- The next word from place p on, where the bytes stand.

@@ -7,7 +7,7 @@ ghost use Rattle.std.specs.shelf.Lists.{leading};
 ghost use Rattle.words.specs.Spelling.{value-of, Made-of};
 ghost use Rattle.std.specs.shelf.Text.{sameBytes};
 ghost use Rattle.std.specs.Text.{asciiDigit};
-ghost use Rattle.words.specs.Classes.{in-class};
+ghost use Rattle.words.specs.Inner.{in-class};
 
 // The bytes that a run is made of.
 #[derive(Clone, Copy)]

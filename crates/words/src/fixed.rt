@@ -6,7 +6,7 @@ ghost use Prim.Native.Nat.{ℕ};
 ghost use Rattle.words.specs.Token.{Token as Meaning};
 ghost use Rattle.words.specs.Spelling.{statement-words, declaration-words, condition-words, reserved-words, two-byte-marks, one-byte-marks};
 ghost use Rattle.words.specs.Words.{Found, exactly, first-of};
-ghost use Rattle.words.specs.Records.{keyword-or, mark-or, Is-mark};
+ghost use Rattle.words.specs.Inner.{keyword-or, mark-or, Is-mark};
 ghost use Rattle.std.specs.Slices.{found};
 use crate::bytes::equal;
 use crate::token::Keyword;

@@ -3,7 +3,7 @@ use Prim.Native.Nat.{ℕ, _+_, _<_, _≤_}
 use native.Mathlib.Omega.{arith}
 use lib.ListN.{drop, length}
 use Rattle.std.specs.shelf.Lists.{leading}
-use Rattle.words.specs.Classes.{in-class}
+use Rattle.words.specs.Inner.{in-class}
 use Rattle.std.proofs.shelf.Sums.{leading-drop-yes, leading-drop-no, leading-drop-all}
 use Rattle.words.proofs.bytes.run.Needs as need
 

@@ -2,7 +2,7 @@ use mathlib.Core.Path.{_≡_}
 use Prim.Native.Nat.{_+_, _-_, _≤_}
 use lib.ListN.{drop, length}
 use Rattle.std.specs.shelf.Lists.{leading}
-use Rattle.words.specs.Classes.{in-class}
+use Rattle.words.specs.Inner.{in-class}
 use Rattle.words.proofs.bytes.run.Given as given
 
 abbrev pub Inv-loop-n : given.InvT-loop-n

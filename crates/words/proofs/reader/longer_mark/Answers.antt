@@ -4,7 +4,7 @@ use native.Mathlib.Omega.{arith}
 use lib.ListN.{drop, length, getD}
 use Rattle.words.specs.Spelling.{two-byte-marks}
 use Rattle.words.specs.Words.{first-of}
-use Rattle.words.specs.Records.{Is-mark}
+use Rattle.words.specs.Inner.{Is-mark}
 use Rattle.words.proofs.OneWord.{two-bytes-at, last-byte-at, with-fact}
 use Rattle.words.proofs.Tables.{one-byte→no-two-byte-mark}
 use Rattle.words.proofs.reader.longer_mark.Needs as need
