@@ -1,0 +1,4 @@
+pub mod Offences
+pub mod Lists
+pub mod Cells
+pub mod Table

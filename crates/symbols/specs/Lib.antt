@@ -6,3 +6,4 @@ pub mod Jumps
 pub mod Rules
 pub mod Texts
 pub mod Examples
+pub mod Laws

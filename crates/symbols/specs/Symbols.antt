@@ -127,12 +127,13 @@ names-from ns (o ∷ os) = names-from (with-name ns (o .name)) os
 abbrev pub names : Program → List Name
 names t = names-from [] (occurrences t)
 
--- The cells of the names follow one another in the order of first appearance.
+-- A name's line, if its cells begin at c. The cells of the names follow one another in the order of first appearance.
+abbrev pub line : List Occurrence → ℕ → Name → Symbol
+line os c n = record { name = n; kind = kind-of os (n .letters); type = type-of os (n .letters); first = c }
+
 abbrev pub numbered : List Occurrence → ℕ → List Name → List Symbol
 numbered os c [] = []
-numbered os c (n ∷ ns) =
-    record { name = n; kind = kind-of os (n .letters); type = type-of os (n .letters); first = c }
-    ∷ numbered os (c + cells (kind-of os (n .letters))) ns
+numbered os c (n ∷ ns) = line os c n ∷ numbered os (c + cells (kind-of os (n .letters))) ns
 
 abbrev pub symbols : Program → List Symbol
 symbols t = numbered (occurrences t) 0 (names t)

@@ -1,4 +1,4 @@
-// Worked examples and laws of names, each proved as the contract of a function that does nothing.
+// Worked texts, each group proved as the contract of a function that does nothing.
 
 ghost use Rattle.symbols.specs.Examples.{Definitions, Uses, Types, Jumps, Cells, Earlier-tests};
 

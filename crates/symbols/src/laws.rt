@@ -1,0 +1,24 @@
+// Laws of names, each proved as the contract of a function that does nothing.
+
+ghost use Rattle.symbols.specs.Laws.{Verdict-law, Table-law, Enough-cells};
+
+// A tree is accepted only if it keeps all rules, and refused for the least that it breaks, at its earliest place.
+pub fn verdict_law_holds() -> u8
+    ensures { λ _. ⌜ Verdict-law ⌝ }
+{
+    0
+}
+
+// Every name has one line of the table, and its cells are its own; together they are the numbers from 0 on.
+pub fn table_law_holds() -> u8
+    ensures { λ _. ⌜ Table-law ⌝ }
+{
+    0
+}
+
+// An accepted tree has at most 2,048 cells, named and hidden.
+pub fn cells_are_enough() -> u8
+    ensures { λ _. ⌜ Enough-cells ⌝ }
+{
+    0
+}
