@@ -13,7 +13,7 @@ pub enum Command<'a> {
 }
 
 // The command that the words say, the first of which is the program's own name.
-pub fn parse<'a>(words: &'a [String]) -> Result<Command<'a>, Failure> {
+pub(crate) fn parse<'a>(words: &'a [String]) -> Result<Command<'a>, Failure> {
     match words {
         [] | [_] => Ok(Command::Help),
         [_, name, rest @ ..] => match name.as_str() {

@@ -6,7 +6,7 @@ use crate::loaded;
 use code::check::check;
 use code::checked::Checked;
 
-pub fn report(rt: &LibcRuntime, file: &str) -> Result<(), Failure> {
+pub(crate) fn report(rt: &LibcRuntime, file: &str) -> Result<(), Failure> {
     let loaded = loaded::load(rt, file)?;
     let mut place = Checked::lone_halt();
     match check(

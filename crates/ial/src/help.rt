@@ -22,7 +22,7 @@ line end, damages the roll from its first byte on.
 Results go to standard output. What cannot be done is told in one line on
 standard error, with status 1.";
 
-pub fn print(rt: &LibcRuntime) -> Result<(), Failure> {
+pub(crate) fn print(rt: &LibcRuntime) -> Result<(), Failure> {
     rt.println(TEXT)?;
     Ok(())
 }

@@ -14,7 +14,7 @@ use code::refusals::Refusal;
 use std::alloc::AllocError;
 use std::alloc::Global;
 
-pub fn report(rt: &LibcRuntime, file: &str) -> Result<(), Failure> {
+pub(crate) fn report(rt: &LibcRuntime, file: &str) -> Result<(), Failure> {
     let loaded = loaded::load(rt, file)?;
     let refused = refusal_of(&loaded);
     let sizes = loaded.sizes;

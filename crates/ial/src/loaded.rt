@@ -19,7 +19,7 @@ pub struct Loaded {
     pub operands: Vec<u64>,
 }
 
-pub fn load(rt: &LibcRuntime, file: &str) -> Result<Loaded, Failure> {
+pub(crate) fn load(rt: &LibcRuntime, file: &str) -> Result<Loaded, Failure> {
     let bytes = match fs::read(rt, file) {
         Ok(bytes) => bytes,
         Err(_) => return Err(Failure::Unreadable(String::from_str(rt.alloc(), file)?)),
@@ -44,7 +44,7 @@ pub fn load(rt: &LibcRuntime, file: &str) -> Result<Loaded, Failure> {
 }
 
 // One line: the number, the operation where there is one, and the reason.
-pub fn print_refusal(rt: &LibcRuntime, refusal: Refusal) -> Result<(), Failure> {
+pub(crate) fn print_refusal(rt: &LibcRuntime, refusal: Refusal) -> Result<(), Failure> {
     let number = refusal.number();
     let reason = refusal.reason();
     match refusal.operation() {

@@ -15,7 +15,7 @@ use rolls::text::TextRoll;
 use rolls::text::TextRollRoll;
 use std::fs;
 
-pub fn report(rt: &LibcRuntime, file: &str, group: Option<usize>) -> Result<(), Failure> {
+pub(crate) fn report(rt: &LibcRuntime, file: &str, group: Option<usize>) -> Result<(), Failure> {
     let bytes = match fs::read(rt, file) {
         Ok(bytes) => bytes,
         Err(_) => return Err(Failure::Unreadable(String::from_str(rt.alloc(), file)?)),

@@ -8,7 +8,7 @@ use std::alloc::Global;
 const WIDTH: usize = 72;
 
 // The line of a location: printable ASCII as it stands, any other byte by its number, and a long line cut off.
-pub fn visible(heap: Global, text: &[u8], location: Location) -> Result<String, AllocError> {
+pub(crate) fn visible(heap: Global, text: &[u8], location: Location) -> Result<String, AllocError> {
     let mut shown = String::new(heap);
     let line = text.iter().skip(location.start);
     let length = location.end.saturating_sub(location.start);
