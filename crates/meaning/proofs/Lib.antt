@@ -1,0 +1,4 @@
+pub mod Running
+pub mod Jumping
+pub mod Changing
+pub mod Keeping

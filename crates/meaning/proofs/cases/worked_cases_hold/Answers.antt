@@ -1,0 +1,21 @@
+use mathlib.Core.Path.{refl}
+use Rattle.words.specs.Words.{name-token, mark-at, words-of}
+use Rattle.symbols.specs.Rules.{verdict}
+use Rattle.meaning.specs.Cases.{comes-of}
+use Rattle.meaning.proofs.cases.worked_cases_hold.Needs as need
+
+pub returns : need.returns
+unfolding name-token mark-at words-of verdict comes-of
+returns c = record {
+  quotient = refl;
+  signed-quotient = refl;
+  at-the-range = refl;
+  past-the-range = refl;
+  progression-tested-late = refl;
+  switch-goes-on = refl;
+  switch-goes-there = refl;
+  truth-stored = refl;
+  rounded = refl;
+  leavers-dropped = refl;
+  members-summed = refl;
+}

@@ -1,0 +1,80 @@
+-- Worked cases: from the bytes of a text through its words, its tree and its symbol table to what the run comes to.
+use mathlib.Core.Path.{_≡_}
+use mathlib.Core.List.{List, [], _∷_}
+use Prim.Native.Nat.{ℕ}
+use Prim.Native.String.{String}
+use lib.Chars.{codes}
+use lib.IntN.{ℤ, pos, negsuc}
+use lib.ListN.{length}
+use Rattle.words.specs.Words.{Words, words, refused as word-refused, words-of}
+use Rattle.words.specs.Refusal.{number as word-number}
+use Rattle.grammar.specs.Tree.{Program}
+use Rattle.grammar.specs.Parser.{Outcome, tree, refused as parse-refused, parsed}
+use Rattle.symbols.specs.Rules.{Verdict, accepted, refused as name-refused, verdict}
+use Rattle.symbols.specs.Refusal.{number as name-number}
+use Rattle.figures.specs.Kinds.{Kind, is-zero}
+use Rattle.figures.specs.Whole.{whole}
+use Rattle.figures.specs.Hundredths.{hundredths}
+use Rattle.rolls.specs.Contents.{Contents, all-of}
+use Rattle.rolls.specs.Groups.{kept}
+use Rattle.std.specs.declared.option.Option.the-variants.{None}
+use Rattle.meaning.specs.Names.{names-of}
+use Rattle.meaning.specs.Positions.{statements}
+use Rattle.meaning.specs.Runs.{initial, Final, ended, faulted, Status, over, Progress, advance}
+
+-- What comes of a text: a refusal and its place, or the steps made, the cells and the posted figures after them, and
+-- whether the run is over.
+pub data Result (V : Type 0) : Type 0 where
+  refused : ℕ → ℕ → Result V
+  ran : ℕ → List V → List V → Status → Result V
+
+module _ {V : Type 0} (kind : Kind V) (cells : List V) (roll : Contents V) (book-length : ℕ) where
+  abbrev result-of : Progress V → Result V
+  result-of p = ran (p .made) (p .reached .memory .cells) (p .reached .memory .posted) (p .status)
+
+  -- A hundred steps at most.
+  abbrev run-accepted : Program → Verdict → Result V
+  run-accepted t (name-refused r p) = refused (name-number r) p
+  run-accepted t accepted = result-of (advance kind (names-of t) (statements t) 100 (initial (statements t) cells roll book-length))
+
+  abbrev run-parsed : Outcome → Result V
+  run-parsed (parse-refused n p) = refused n p
+  run-parsed (tree t) = run-accepted t (verdict t)
+
+  abbrev run-words : ℕ → Words → Result V
+  run-words end (word-refused r p) = refused (word-number r) p
+  run-words end (words ws) = run-parsed (parsed 32 end ws)
+
+  unfoldable pub comes-of : String → Result V
+  comes-of text = run-words (length (codes text)) (words-of (codes text))
+
+abbrev pub none : Contents ℤ
+none = all-of []
+
+-- Cells are listed in the order in which their names first appear.
+pub record Worked-cases : Type 0 where
+  -- 7/2 drops the fraction, and so does -7/2; the leading sign bears on 7/2
+  pub quotient : comes-of whole (pos 0 ∷ []) none 0 "x := 7/2" ≡ ran 1 (pos 3 ∷ []) [] (over ended)
+  pub signed-quotient : comes-of whole (pos 0 ∷ []) none 0 "x := -7/2" ≡ ran 1 (negsuc 2 ∷ []) [] (over ended)
+  -- the range ends at 2,000,000,000; past it is 31, at the assignment
+  pub at-the-range : comes-of whole (pos 0 ∷ []) none 0 "x := 999999999+999999999+2" ≡ ran 1 (pos 2000000000 ∷ []) [] (over ended)
+  pub past-the-range : comes-of whole (pos 0 ∷ []) none 0 "x := 999999999+999999999+3"
+      ≡ ran 0 (pos 0 ∷ []) [] (over (faulted (record { number = 31; place = 0; roll-place = None })))
+  -- a progression runs its body before the first test: i 6, x 1
+  pub progression-tested-late : comes-of whole (pos 0 ∷ pos 0 ∷ []) none 0 "for i := 5(1)3; x := x+1" ≡ ran 4 (pos 6 ∷ pos 1 ∷ []) [] (over ended)
+  -- a switch without a third label goes on; with the second it goes there: x, y
+  pub switch-goes-on : comes-of whole (pos 0 ∷ pos 0 ∷ []) none 0 "switch s := (a, b); go to s[3]; x := 1; a: b: y := 1"
+      ≡ ran 3 (pos 1 ∷ pos 1 ∷ []) [] (over ended)
+  pub switch-goes-there : comes-of whole (pos 0 ∷ pos 0 ∷ []) none 0 "switch s := (a, b); go to s[2]; x := 1; a: b: y := 1"
+      ≡ ran 2 (pos 0 ∷ pos 1 ∷ []) [] (over ended)
+  -- a Boolean cell that holds 7 is true, and true is stored as 1: p, q
+  pub truth-stored : comes-of whole (pos 7 ∷ pos 0 ∷ []) none 0 "boolean(p, q); q := p" ≡ ran 1 (pos 7 ∷ pos 1 ∷ []) [] (over ended)
+  -- 3.50 is rounded to 4.00 for an integer name
+  pub rounded : comes-of hundredths (pos 0 ∷ []) none 0 "integer(x); x := 7/2" ≡ ran 1 (pos 400 ∷ []) [] (over ended)
+  -- groups of two whose first figure is 0 are dropped, also a short one at the end
+  pub leavers-dropped : kept (is-zero whole) 2 (all-of (pos 1 ∷ pos 10 ∷ pos 0 ∷ pos 20 ∷ pos 1 ∷ pos 30 ∷ pos 0 ∷ []))
+      ≡ all-of (pos 1 ∷ pos 10 ∷ pos 1 ∷ pos 30 ∷ [])
+  -- the sum of two members: n, s, i, x
+  pub members-summed : comes-of whole (pos 0 ∷ pos 0 ∷ pos 0 ∷ pos 0 ∷ []) (all-of (pos 2 ∷ pos 10 ∷ pos 20 ∷ [])) 1
+      "in=:(n); s:=0; for i:=1(1)n; begin in=:(x); s:=s+x end; print(s)"
+      ≡ ran 12 (pos 2 ∷ pos 30 ∷ pos 3 ∷ pos 20 ∷ []) (pos 30 ∷ []) (over ended)

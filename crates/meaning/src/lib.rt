@@ -1,0 +1,4 @@
+// What an accepted text means: the statement machine, its laws and worked cases.
+
+pub mod cases;
+pub mod theorems;
