@@ -1,12 +1,11 @@
 -- Every sentence within the limit is read to its tree: one clause for each way in which a phrase is written.
-use mathlib.Core.Path.{_≡_, refl, sym, _∙_, ap}
-use mathlib.Core.Bool.{Bool, true, false, cond}
+use mathlib.Core.Path.{_≡_, refl, _∙_, ap}
+use mathlib.Core.Bool.{true, false}
 use mathlib.Core.List.{List, [], _∷_}
-use Prim.Native.Nat.{ℕ, zero, suc, _+_, _≤_, _<_}
+use Prim.Native.Nat.{ℕ, suc, _+_, _≤_}
 use native.Mathlib.Omega.{arith}
 use lib.Dec.{leb}
 use borrow.Author.Tests.{le-leb}
-use Rattle.std.specs.declared.option.Option.{Option}
 use Rattle.std.specs.declared.option.Option.the-variants.{Some, None}
 use Rattle.words.specs.declared.token.Mark.the-variants.{Semicolon, Comma, OpenRound, OpenSquare}
 use Rattle.words.specs.declared.token.Keyword.the-variants.{Comment, Integer, Boolean, Array, Switch}
@@ -15,10 +14,10 @@ use Rattle.grammar.specs.declared.operator.Operator.{Operator}
 use Rattle.grammar.specs.declared.operator.Operator.the-variants.{Equivalence, Disjunction, Conjunction, Additive, Multiplicative}
 use Rattle.grammar.specs.declared.operator.Prefix.{Prefix}
 use Rattle.grammar.specs.declared.operator.Prefix.the-variants.{Negation, Signed}
-use Rattle.grammar.specs.Tree.{Row, one, more, Exp, Variable, Statement, Program, prefixed, joined}
-use Rattle.grammar.specs.Classes.{rank, prefix-rank, operand-rank, operator-token, prefix-token, Class, the-mark, the-keyword, an-operator, a-prefix, Content, found, when, opens, levels-after, prefix-of, operator-of, from-rank}
+use Rattle.grammar.specs.Tree.{Row, more, Exp, Variable, Statement, Program, prefixed, joined}
+use Rattle.grammar.specs.Classes.{rank, prefix-rank, operand-rank, operator-token, prefix-token, the-mark, the-keyword, an-operator, found, opens, levels-after, prefix-of, operator-of, from-rank}
 use Rattle.grammar.specs.Grammar.{Part, ranked, factor, variable, identifier, bound, group, element, statement, item, exp, Phrase, a, row, program, separator, Tree, Value, Is, Derives, alone, another, a-name, a-whole, an-indexed, a-number, a-value, in-brackets, a-comparison, a-factor, an-operand, operated, after-prefix, a-single, a-progression, a-label, an-assignment, a-conditional, a-repetition, a-block, a-jump, a-switched-jump, an-input, a-print, a-stop, a-signed-bound, a-plain-bound, a-group, a-comment, integers, booleans, arrays, a-switch, an-action}
-use Rattle.grammar.specs.Parser.{Goal, begin, operators, rest, Script, done, word, either, part, goto, within, variable-factor, factor-script, prefix-script, behind-factor, operator-script, element-rest, row-rest, group-bounds, statement-script, statement-item, part-script, phrase-script, start, Around, nothing, waiting, State, at, met, met-within, meets, passes, if-found, after, moved, run, tree, initial, onward}
+use Rattle.grammar.specs.Parser.{begin, operators, rest, Script, done, word, either, part, goto, within, variable-factor, factor-script, prefix-script, behind-factor, operator-script, element-rest, row-rest, group-bounds, statement-script, statement-item, part-script, Around, nothing, waiting, at, met, meets, passes, if-found, after, moved, run, tree, initial, onward}
 use Rattle.grammar.proofs.Steps.{heads, Fresh, within-moves, Leads, _then_, alike, alike-on, handed-on, done-alike, part-waits, or-done, takes-word, takes-opening}
 use Rattle.grammar.proofs.Ranks.{rank-of, head-rank, No-square, Stops, separator-stops, rank-positive, rank-not-4, operator-again, operator-no-square, no-operator, same-operator, head-at-most-6}
 

@@ -1,25 +1,21 @@
 -- Whatever was read so far can go on to a sentence.
-use mathlib.Core.Path.{_≡_, refl, sym, _∙_, ap}
+use mathlib.Core.Path.{refl}
 use mathlib.Core.Bool.{Bool, true, false, cond}
 use mathlib.Core.List.{List, [], _∷_, _++_, append-assoc}
-use Prim.Native.Nat.{ℕ, zero, suc, _+_, _-_, _≤_, _<_}
+use Prim.Native.Nat.{ℕ, zero, suc, _+_, _-_, _≤_}
 use native.Mathlib.Omega.{arith}
-use Rattle.std.specs.declared.option.Option.{Option}
-use Rattle.std.specs.declared.option.Option.the-variants.{Some, None}
 use Rattle.words.specs.declared.token.Sign.the-variants.{Plus}
 use Rattle.words.specs.declared.token.Relation.the-variants.{Less}
-use Rattle.words.specs.declared.token.Mark.{Mark}
 use Rattle.words.specs.declared.token.Mark.the-variants.{Colon, OpenSquare, CloseSquare}
-use Rattle.words.specs.declared.token.Keyword.{Keyword}
 use Rattle.words.specs.declared.token.Keyword.the-variants.{Stop}
 use Rattle.words.specs.Token.{Token, Word, name, number, keyword, mark}
 use Rattle.grammar.specs.declared.operator.Operator.the-variants.{Equivalence}
 use Rattle.grammar.specs.declared.operator.Prefix.the-variants.{Negation}
-use Rattle.grammar.specs.Tree.{Row, one, more, Program, literal, whole, single, stop, action}
-use Rattle.grammar.specs.Classes.{Class, the-mark, the-keyword, a-name, a-number, a-sign, a-relation, a-prefix, an-operator, Content, opens, closes, less, levels-after}
+use Rattle.grammar.specs.Tree.{one, Program, literal, whole, single, stop, action}
+use Rattle.grammar.specs.Classes.{Class, the-mark, the-keyword, a-name, a-number, a-sign, a-relation, a-prefix, an-operator, Content, opens, closes, less}
 use Rattle.grammar.specs.Grammar.{Part, ranked, factor, variable, identifier, bound, group, element, statement, item, Phrase, a, row, program, Tree, Value, Derives, alone, a-name as name-derives, a-whole, a-number as number-derives, a-single, a-stop, a-plain-bound, a-group, an-action}
 use Rattle.grammar.specs.Parser.{Goal, begin, operators, rest, Script, done, word, either, part, goto, within, Around, nothing, waiting, State, at}
-use Rattle.grammar.proofs.Found.{token-of, class-opens, class-levels}
+use Rattle.grammar.proofs.Found.{token-of, class-levels}
 use Rattle.grammar.proofs.Yields.{Reaches, Yields, of-any-rank}
 use Rattle.grammar.proofs.Sound.{Meant, At}
 

@@ -2,10 +2,10 @@
 use mathlib.Core.Path.{_≡_, refl, sym, _∙_, ap}
 use mathlib.Core.Bool.{Bool, true, false, cond}
 use mathlib.Core.List.{List, [], _∷_}
-use Prim.Native.Nat.{ℕ, suc, _≤_, _<_}
+use Prim.Native.Nat.{ℕ, _≤_}
 use native.Mathlib.Omega.{arith}
 use lib.ListN.{getD}
-use lib.Dec.{eqb, leb}
+use lib.Dec.{leb}
 use borrow.Author.Tests.{eqb-true, leb-true}
 use Rattle.std.specs.declared.option.Option.{Option}
 use Rattle.std.specs.declared.option.Option.the-variants.{Some, None}
@@ -18,7 +18,7 @@ use Rattle.grammar.specs.declared.operator.Operator.{Operator}
 use Rattle.grammar.specs.declared.operator.Operator.the-variants.{Equivalence, Disjunction, Conjunction, Additive, Multiplicative}
 use Rattle.grammar.specs.declared.operator.Prefix.{Prefix}
 use Rattle.grammar.specs.declared.operator.Prefix.the-variants.{Negation, Signed}
-use Rattle.grammar.specs.Classes.{mark-number, keyword-number, is-mark, is-keyword, rank, prefix-rank, operator-token, prefix-token, Class, the-mark, the-keyword, a-name, a-number, a-sign, a-relation, a-prefix, an-operator, Content, when, name-of, number-of, sign-of, relation-of, mark-of, keyword-of, prefix-of, operator-of, from-rank, between-ranks, found, mark-opens, keyword-opens, opens, closes, less, levels-after}
+use Rattle.grammar.specs.Classes.{mark-number, keyword-number, is-mark, is-keyword, rank, prefix-rank, operator-token, prefix-token, Class, the-mark, the-keyword, a-name, a-number, a-sign, a-relation, a-prefix, an-operator, Content, when, name-of, number-of, sign-of, relation-of, mark-of, keyword-of, prefix-of, operator-of, from-rank, between-ranks, found, mark-opens, keyword-opens, opens, levels-after}
 
 pub none-some : {A B : Type 0} {x : A} → None ≡ Some x → B
 none-some e = let z : _≡_ {A = ℕ} 0 1 = cc in absurd (omega arith)

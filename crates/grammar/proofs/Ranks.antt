@@ -1,22 +1,20 @@
 -- Which words can follow a part, and how operators are found by their ranks.
 use mathlib.Core.Path.{_≡_, refl, sym, _∙_, ap}
-use mathlib.Core.Bool.{Bool, true, false, cond}
+use mathlib.Core.Bool.{true, cond}
 use mathlib.Core.List.{List, [], _∷_}
-use Prim.Native.Nat.{ℕ, zero, suc, _+_, _≤_, _<_}
+use Prim.Native.Nat.{ℕ, _≤_}
 use native.Mathlib.Omega.{arith}
 use lib.Dec.{leb}
-use borrow.Author.Tests.{le-leb, leb-true}
+use borrow.Author.Tests.{le-leb}
 use Rattle.std.specs.declared.option.Option.{Option}
 use Rattle.std.specs.declared.option.Option.the-variants.{Some, None}
-use Rattle.words.specs.declared.token.Keyword.{Keyword}
-use Rattle.words.specs.declared.token.Keyword.the-variants.{Eqv, Or, And}
 use Rattle.words.specs.declared.token.Mark.the-variants.{OpenRound, OpenSquare}
-use Rattle.words.specs.Token.{Token, Word, name, number, keyword, mark, sign, scaling, relation}
+use Rattle.words.specs.Token.{Word, mark}
 use Rattle.grammar.specs.declared.operator.Operator.{Operator}
 use Rattle.grammar.specs.declared.operator.Operator.the-variants.{Equivalence, Disjunction, Conjunction, Additive, Multiplicative}
-use Rattle.grammar.specs.Classes.{rank, operator-token, the-mark, an-operator, when, operator-of, between-ranks, is-keyword, found}
+use Rattle.grammar.specs.Classes.{rank, operator-token, the-mark, an-operator, when, operator-of, between-ranks, found}
 use Rattle.grammar.specs.Grammar.{Part, ranked, factor, variable, identifier, bound, group, element, statement, item, separator}
-use Rattle.grammar.proofs.Found.{none-some, some-same, between-ranks-some}
+use Rattle.grammar.proofs.Found.{some-same, between-ranks-some}
 use Rattle.grammar.proofs.Steps.{heads}
 
 abbrev pub rank-of : Option Operator → ℕ

@@ -2,17 +2,19 @@
 use mathlib.Core.Path.{_≡_, refl, sym, _∙_, ap}
 use mathlib.Core.Bool.{Bool, true, false, cond}
 use mathlib.Core.List.{List, [], _∷_}
-use Prim.Native.Nat.{ℕ, zero, suc, _-_, _≤_, _<_}
+use Prim.Native.Nat.{ℕ, _-_, _≤_}
 use native.Mathlib.Omega.{arith}
 use lib.Dec.{leb}
 use borrow.Author.Tests.{leb-true}
 use Rattle.std.specs.declared.option.Option.{Option}
 use Rattle.std.specs.declared.option.Option.the-variants.{Some, None}
-use Rattle.words.specs.Token.{Token, Word}
+use Rattle.words.specs.Token.{Word}
+use Rattle.grammar.specs.declared.refusal.SentenceRefusal.{SentenceRefusal}
+use Rattle.grammar.specs.declared.refusal.SentenceRefusal.the-variants.{Unexpected, TooDeep}
 use Rattle.grammar.specs.Tree.{Program}
 use Rattle.grammar.specs.Classes.{Class, Content, found, opens, levels-after}
 use Rattle.grammar.specs.Grammar.{Phrase, program, Value, Derives}
-use Rattle.grammar.specs.Parser.{Goal, Script, done, word, either, part, goto, within, start, opened, Around, nothing, waiting, State, at, Taken, here, inside, Met, takes, passes, refuses, if-found, met-within, meets, entered, met, after, moved, then-ended, ended, ended-around, finished, Outcome, tree, refused, early-or, levels, onward, run}
+use Rattle.grammar.specs.Parser.{Script, done, word, either, part, goto, within, start, opened, Around, nothing, waiting, State, at, Taken, here, inside, Met, takes, passes, refuses, if-found, met-within, meets, entered, met, after, moved, then-ended, ended, ended-around, finished, tree, refused, early-or, levels, onward, run}
 use Rattle.grammar.proofs.Found.{none-some, some-same, class-opens, class-levels, token-of, In-rank, found→is, token-levels}
 use Rattle.grammar.proofs.Yields.{Reaches, Yields, yields-more, yields-within, start-yields}
 
@@ -135,11 +137,11 @@ module _ (limit : ℕ) where
       finished-at (at d s k) h e =
           then-at k (ended (opened s)) (λ u. ended-yields (opened s) (λ ms x. Meant k ms x) d u (opened-yields s (λ ms x. Meant k ms x) d [] h)) (λ u. around-at k u) e
 
-      not-refused : {A : Type 0} (n b : ℕ) → refused n b ≡ tree t → A
+      not-refused : {A : Type 0} (n : SentenceRefusal) (b : ℕ) → refused n b ≡ tree t → A
       not-refused n b e = let z : _≡_ {A = ℕ} 0 1 = cc in absurd (omega arith)
 
       early-at : (end : ℕ) (o : Option Program) → early-or end o ≡ tree t → o ≡ Some t
-      early-at end None e = not-refused 5 end e
+      early-at end None e = not-refused Unexpected end e
       early-at end (Some u) e = let i : u ≡ t = cc in ap Some i
 
       pub run-at : (end : ℕ) (ws : List Word) (s : State) → At s ws → run limit end ws s ≡ tree t → Derives program limit whole [] t
@@ -147,9 +149,9 @@ module _ (limit : ℕ) where
       run-at end (w ∷ ws) s h e = next (moved s (w .token) (w .place)) refl (λ q. run-at end ws q) e
         where
           checked : (o l : Bool) (q : State) → (opens (w .token) ≡ o) → (leb (levels q) limit ≡ l) → moved s (w .token) (w .place) ≡ Some q → (At q ws → run limit end ws q ≡ tree t → Derives program limit whole [] t)
-              → cond o (cond l (run limit end ws q) (refused 6 (w .place))) (run limit end ws q) ≡ tree t → Derives program limit whole [] t
+              → cond o (cond l (run limit end ws q) (refused TooDeep (w .place))) (run limit end ws q) ≡ tree t → Derives program limit whole [] t
           checked true true q i j m rec e = rec (moved-at w ws q (λ _. leb-true (levels q) limit j) s h m) e
-          checked true false q i j m rec e = not-refused 6 (w .place) e
+          checked true false q i j m rec e = not-refused TooDeep (w .place) e
           checked false l q i j m rec e = rec (moved-at w ws q (λ o. let z : false ≡ true = sym i ∙ o in false-true z) s h m) e
             where
               false-true : {A : Type 0} → false ≡ true → A
@@ -157,5 +159,5 @@ module _ (limit : ℕ) where
 
           next : (o : Option State) → moved s (w .token) (w .place) ≡ o → ((q : State) → At q ws → run limit end ws q ≡ tree t → Derives program limit whole [] t)
               → onward limit (w .place) (opens (w .token)) (λ q. run limit end ws q) o ≡ tree t → Derives program limit whole [] t
-          next None m rec e = not-refused 5 (w .place) e
+          next None m rec e = not-refused Unexpected (w .place) e
           next (Some q) m rec e = checked (opens (w .token)) (leb (levels q) limit) q refl refl m (rec q) e

@@ -2,18 +2,16 @@
 use mathlib.Core.Path.{_≡_, refl, sym, _∙_, ap}
 use mathlib.Core.Bool.{Bool, true, false, cond}
 use mathlib.Core.List.{List, [], _∷_}
-use Prim.Native.Nat.{ℕ, zero, suc, _+_, _-_, _≤_, _<_}
-use native.Mathlib.Omega.{arith}
+use Prim.Native.Nat.{ℕ, _≤_}
 use lib.Dec.{leb}
 use borrow.Author.Tests.{le-leb}
 use Rattle.std.specs.declared.option.Option.{Option}
 use Rattle.std.specs.declared.option.Option.the-variants.{Some, None}
 use Rattle.words.specs.Token.{Token, Word}
-use Rattle.grammar.specs.Tree.{Program}
+use Rattle.grammar.specs.declared.refusal.SentenceRefusal.the-variants.{TooDeep}
 use Rattle.grammar.specs.Classes.{Class, Content, found, opens, levels-after}
-use Rattle.grammar.specs.Grammar.{Phrase, program, Value}
-use Rattle.grammar.specs.Parser.{Goal, Script, done, word, either, part, goto, within, start, opened, Around, nothing, waiting, State, at, Taken, here, inside, Met, takes, passes, refuses, if-found, met-within, meets, entered, met, after, moved, then-ended, ended, ended-around, finished, Outcome, tree, refused, early-or, levels, onward, run}
-use Rattle.grammar.proofs.Found.{none-some, some-same}
+use Rattle.grammar.specs.Grammar.{Phrase, Value}
+use Rattle.grammar.specs.Parser.{Goal, Script, done, word, either, part, goto, within, start, Around, waiting, State, at, Met, takes, passes, refuses, if-found, met-within, meets, met, after, moved, then-ended, ended, ended-around, finished, Outcome, refused, early-or, levels, onward, run}
 
 -- What a class has of the next word.
 abbrev pub heads : (c : Class) → List Word → Option (Content c)
@@ -127,7 +125,7 @@ module _ {limit end : ℕ} where
       let j : opens (w .token) ≡ false = ap opens e ∙ o in
       record {
         same = ap (λ x. onward limit (w .place) (opens (w .token)) (λ r. run limit end ws r) x) i
-            ∙ ap (λ b. cond b (cond (leb (levels q) limit) (run limit end ws q) (refused 6 (w .place))) (run limit end ws q)) j;
+            ∙ ap (λ b. cond b (cond (leb (levels q) limit) (run limit end ws q) (refused TooDeep (w .place))) (run limit end ws q)) j;
       }
 
   -- A word is taken that opens a level, if one is left.
@@ -137,7 +135,7 @@ module _ {limit end : ℕ} where
       let j : leb (levels q) limit ≡ true = le-leb (levels q) limit h in
       record {
         same = ap (λ x. onward limit (w .place) (opens (w .token)) (λ r. run limit end ws r) x) i
-            ∙ (ap (λ b. cond (opens (w .token)) (cond b (run limit end ws q) (refused 6 (w .place))) (run limit end ws q)) j ∙ cond-same (opens (w .token)) (run limit end ws q));
+            ∙ (ap (λ b. cond (opens (w .token)) (cond b (run limit end ws q) (refused TooDeep (w .place))) (run limit end ws q)) j ∙ cond-same (opens (w .token)) (run limit end ws q));
       }
     where
       cond-same : (b : Bool) (x : Outcome) → cond b x x ≡ x

@@ -1,18 +1,14 @@
 -- What the scripts promise: whichever words a script takes, its tree derives from them.
-use mathlib.Core.Path.{_≡_, refl, sym, _∙_, ap}
-use mathlib.Core.Logic.{_⊎_, inl, inr}
-use mathlib.Core.Bool.{Bool, true, false, cond}
-use mathlib.Core.List.{List, [], _∷_}
+use mathlib.Core.Path.{_≡_, refl}
+use mathlib.Core.Bool.{true}
+use mathlib.Core.List.{List, _∷_}
 use Prim.Native.Nat.{ℕ, zero, suc, _+_, _-_, _≤_, _<_}
 use native.Mathlib.Omega.{arith}
-use Rattle.std.specs.declared.option.Option.{Option}
-use Rattle.std.specs.declared.option.Option.the-variants.{Some, None}
-use Rattle.words.specs.Token.{Token, Word, mark}
-use Rattle.grammar.specs.Tree.{Row, one, more, Exp, literal, prefixed, joined, value-of, single, progression, action}
-use Rattle.grammar.specs.declared.operator.Operator.{Operator}
-use Rattle.grammar.specs.Classes.{rank, prefix-rank, operand-rank, Class, Content, levels-after}
-use Rattle.grammar.specs.Grammar.{Part, ranked, factor, variable, identifier, bound, group, element, statement, item, exp, Phrase, a, row, program, separator, Tree, Value, Derives, alone, another, a-name, a-whole, an-indexed, a-number, a-value, in-brackets, a-comparison, a-factor, an-operand, operated, after-prefix, a-single, a-progression, a-label, an-assignment, a-conditional, a-repetition, a-block, a-jump, a-switched-jump, an-input, a-print, a-stop, a-signed-bound, a-plain-bound, a-group, a-comment, integers, booleans, arrays, a-switch, an-action}
-use Rattle.grammar.specs.Parser.{Goal, begin, operators, rest, Script, done, word, either, part, goto, within, name-script, variable-script, factor-script, ranked-script, operators-script, element-script, statement-script, bound-script, group-script, item-script, part-script, phrase-script, variable-factor, behind-factor, element-rest, row-rest, group-bounds, statement-item, start, opened}
+use Rattle.words.specs.Token.{Word, mark}
+use Rattle.grammar.specs.Tree.{Row, Exp}
+use Rattle.grammar.specs.Classes.{rank, prefix-rank, Content, levels-after}
+use Rattle.grammar.specs.Grammar.{Part, ranked, factor, variable, identifier, bound, group, element, statement, item, exp, Phrase, a, row, separator, Tree, Value, Derives, alone, another, a-name, a-whole, an-indexed, a-number, a-value, in-brackets, a-comparison, a-factor, an-operand, operated, after-prefix, a-single, a-progression, a-label, an-assignment, a-conditional, a-repetition, a-block, a-jump, a-switched-jump, an-input, a-print, a-stop, a-signed-bound, a-plain-bound, a-group, a-comment, integers, booleans, arrays, a-switch, an-action}
+use Rattle.grammar.specs.Parser.{Goal, begin, operators, rest, Script, done, word, either, part, goto, within, name-script, variable-script, factor-script, ranked-script, operators-script, element-script, statement-script, bound-script, group-script, item-script, part-script, phrase-script, variable-factor, behind-factor, element-rest, row-rest, group-bounds, statement-item, start}
 use Rattle.grammar.proofs.Found.{token-of, In-rank, class-opens, class-levels}
 
 -- An expression that can be taken as one of any rank from r to q, and of rank r.

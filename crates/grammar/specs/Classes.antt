@@ -7,7 +7,6 @@ use lib.Dec.{eqb, leb}
 use Rattle.std.specs.declared.option.Option.{Option}
 use Rattle.std.specs.declared.option.Option.the-variants.{Some, None}
 use Rattle.words.specs.declared.token.Sign.{Sign}
-use Rattle.words.specs.declared.token.Scaling.{Scaling}
 use Rattle.words.specs.declared.token.Relation.{Relation}
 use Rattle.words.specs.declared.token.Mark.{Mark}
 use Rattle.words.specs.declared.token.Mark.the-variants.{Semicolon, Colon, Becomes, Into, Comma, OpenRound, CloseRound, OpenSquare, CloseSquare}

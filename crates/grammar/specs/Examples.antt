@@ -4,14 +4,14 @@ use mathlib.Core.List.{List, [], _∷_}
 use Prim.Native.Nat.{ℕ, suc}
 use Rattle.words.specs.declared.token.Sign.the-variants.{Plus, Minus}
 use Rattle.words.specs.declared.token.Scaling.the-variants.{Times}
-use Rattle.words.specs.declared.token.Relation.the-variants.{Less}
-use Rattle.words.specs.declared.token.Mark.the-variants.{Semicolon, Colon, Becomes, Into, Comma, OpenRound, CloseRound, OpenSquare, CloseSquare}
-use Rattle.words.specs.declared.token.Keyword.the-variants.{Begin, End, If, For, Go, To, Switch, Integer, Boolean, Array, Comment, In, Print, Stop, And, Or, Not, Eqv}
-use Rattle.words.specs.Token.{Token, Word, name, number, keyword, mark, sign, scaling, relation}
-use Rattle.grammar.specs.declared.operator.Operator.the-variants.{Disjunction, Conjunction, Additive, Multiplicative}
-use Rattle.grammar.specs.declared.operator.Prefix.the-variants.{Negation, Signed}
-use Rattle.grammar.specs.Tree.{Row, one, more, Name, Exp, literal, simple, subscripted, prefixed, joined, bracketed, compared, whole, indexed, single, progression, labelled, conditional, repeated, assigned, go, switched, input, printed, stop, sequence, comment, integer, boolean, array, switch, action}
-use Rattle.grammar.specs.Parser.{Outcome, tree, refused, parsed, named}
+use Rattle.words.specs.declared.token.Mark.the-variants.{Semicolon, Becomes, Comma, OpenRound, CloseRound, OpenSquare, CloseSquare}
+use Rattle.words.specs.declared.token.Keyword.the-variants.{Begin, End, For, Stop}
+use Rattle.words.specs.Token.{Token, Word, name, number, keyword, mark, sign, scaling}
+use Rattle.grammar.specs.declared.refusal.SentenceRefusal.the-variants.{Unexpected, TooDeep}
+use Rattle.grammar.specs.declared.operator.Operator.the-variants.{Additive, Multiplicative}
+use Rattle.grammar.specs.declared.operator.Prefix.the-variants.{Signed}
+use Rattle.grammar.specs.Tree.{one, more, literal, prefixed, joined, bracketed, whole, indexed, single, progression, repeated, assigned, stop, sequence, action}
+use Rattle.grammar.specs.Parser.{tree, refused, parsed, named}
 
 -- Words one byte apart.
 abbrev placed : ℕ → List Token → List Word
@@ -35,15 +35,15 @@ Repetition = parsed 32 99 (placed 0 (keyword For ∷ x ∷ mark Becomes ∷ numb
 
 -- x := 1 + ends early.
 abbrev pub Early-end : Type 0
-Early-end = parsed 32 8 (placed 0 (x ∷ mark Becomes ∷ number 1 ∷ sign Plus ∷ [])) ≡ refused 5 8
+Early-end = parsed 32 8 (placed 0 (x ∷ mark Becomes ∷ number 1 ∷ sign Plus ∷ [])) ≡ refused Unexpected 8
 
 -- x := 1 + * 2: the `*` cannot stand there.
 abbrev pub Impossible-word : Type 0
-Impossible-word = parsed 32 8 (placed 0 (x ∷ mark Becomes ∷ number 1 ∷ sign Plus ∷ scaling Times ∷ number 2 ∷ [])) ≡ refused 5 4
+Impossible-word = parsed 32 8 (placed 0 (x ∷ mark Becomes ∷ number 1 ∷ sign Plus ∷ scaling Times ∷ number 2 ∷ [])) ≡ refused Unexpected 4
 
 -- x := ((1)) within one level.
 abbrev pub Too-deep : Type 0
-Too-deep = parsed 1 99 (placed 0 (x ∷ mark Becomes ∷ mark OpenRound ∷ mark OpenRound ∷ number 1 ∷ mark CloseRound ∷ mark CloseRound ∷ [])) ≡ refused 6 3
+Too-deep = parsed 1 99 (placed 0 (x ∷ mark Becomes ∷ mark OpenRound ∷ mark OpenRound ∷ number 1 ∷ mark CloseRound ∷ mark CloseRound ∷ [])) ≡ refused TooDeep 3
 
 -- `)` closes its level: x := (1) + (2) within one.
 abbrev pub Closed-levels : Type 0

@@ -1,7 +1,7 @@
 -- The grammar: `Derives p l ws rs t` says that the words of ws up to rs are the phrase p, nested in at most l levels, and
 -- that t is its tree. There is a constructor for each way in which the rules of docs/grammar.md write a phrase.
 use mathlib.Core.Path.{_≡_}
-use mathlib.Core.List.{List, [], _∷_}
+use mathlib.Core.List.{List, _∷_}
 use Prim.Native.Nat.{ℕ, suc, _≤_, _<_}
 use Rattle.words.specs.declared.token.Sign.{Sign}
 use Rattle.words.specs.declared.token.Sign.the-variants.{Plus}
@@ -12,7 +12,7 @@ use Rattle.words.specs.declared.token.Keyword.the-variants.{Begin, End, If, For
 use Rattle.words.specs.Token.{Token, Word, name, number, keyword, mark, sign, relation}
 use Rattle.grammar.specs.declared.operator.Operator.{Operator}
 use Rattle.grammar.specs.declared.operator.Prefix.{Prefix}
-use Rattle.grammar.specs.Tree.{Row, one, more, Name, Exp, literal, simple, subscripted, prefixed, joined, bracketed, compared, Variable, whole, indexed, value-of, Element, single, progression, Statement, labelled, conditional, repeated, assigned, go, switched, input, printed, stop, block, Bound, Group, Item, comment, integer, boolean, array, switch, action}
+use Rattle.grammar.specs.Tree.{Row, one, more, Name, Exp, literal, prefixed, joined, bracketed, compared, Variable, whole, indexed, value-of, Element, single, progression, Statement, labelled, conditional, repeated, assigned, go, switched, input, printed, stop, block, Bound, Group, Item, comment, integer, boolean, array, switch, action}
 use Rattle.grammar.specs.Classes.{rank, prefix-rank, operand-rank, operator-token, prefix-token}
 
 -- The parts of a text. An expression of rank r is a row of operators of that rank between expressions of rank r + 1;

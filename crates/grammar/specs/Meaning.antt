@@ -6,10 +6,11 @@ use mathlib.Core.List.{List, [], _∷_, _++_}
 use Prim.Native.Nat.{ℕ, _+_, _*_, _≤_}
 use lib.ListN.{length}
 use Rattle.words.specs.Token.{Token, Word, name, number, keyword, mark, sign, scaling, relation}
+use Rattle.grammar.specs.declared.refusal.SentenceRefusal.the-variants.{Unexpected, TooDeep}
 use Rattle.grammar.specs.Tree.{Program}
 use Rattle.grammar.specs.Classes.{opens}
 use Rattle.grammar.specs.Grammar.{program, Derives}
-use Rattle.grammar.specs.Parser.{Outcome, tree, refused, parsed}
+use Rattle.grammar.specs.Parser.{tree, refused, parsed}
 
 -- The words are a sentence of at most l levels, and t is its tree.
 abbrev pub Sentence : ℕ → List Word → Program → Type 0
@@ -57,17 +58,17 @@ Complete = (limit end : ℕ) (ws : List Word) (t : Program) → Sentence limit w
 abbrev pub Unambiguous : Type 0
 Unambiguous = (l m : ℕ) (ws : List Word) (t u : Program) → Sentence l ws t → Sentence m ws u → t ≡ u
 
--- 5 names the first impossible word, or the text's end where the words could go on to a sentence.
-abbrev pub Five : Type 0
-Five = (limit end : ℕ) (ws : List Word) (p : ℕ) → parsed limit end ws ≡ refused 5 p → Impossible ws p ⊎ ((p ≡ end) × Unfinished ws)
+-- Refusal 5, unexpected, names the first impossible word, or the text's end where the words could go on to a sentence.
+abbrev pub Unexpected-words : Type 0
+Unexpected-words = (limit end : ℕ) (ws : List Word) (p : ℕ) → parsed limit end ws ≡ refused Unexpected p → Impossible ws p ⊎ ((p ≡ end) × Unfinished ws)
 
--- 6 names a word that opens a level too many.
-abbrev pub Six : Type 0
-Six = (limit end : ℕ) (ws : List Word) (p : ℕ) → parsed limit end ws ≡ refused 6 p → Too-deep limit ws p
+-- Refusal 6, too deep, names a word that opens a level too many.
+abbrev pub Too-deep-words : Type 0
+Too-deep-words = (limit end : ℕ) (ws : List Word) (p : ℕ) → parsed limit end ws ≡ refused TooDeep p → Too-deep limit ws p
 
 -- An early end is told wherever the words could go on to a sentence, unless they are too deep already.
-abbrev pub Early : Type 0
-Early = (limit end : ℕ) (ws : List Word) → Unfinished ws → (parsed limit end ws ≡ refused 5 end) ⊎ ((p : ℕ) × (parsed limit end ws ≡ refused 6 p))
+abbrev pub Early-ends : Type 0
+Early-ends = (limit end : ℕ) (ws : List Word) → Unfinished ws → (parsed limit end ws ≡ refused Unexpected end) ⊎ ((p : ℕ) × (parsed limit end ws ≡ refused TooDeep p))
 
 abbrev pub name-count : Token → ℕ
 name-count (name n) = 1

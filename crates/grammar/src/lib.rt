@@ -1,4 +1,5 @@
 // The grammar of the language: its syntax trees, its sentences and their defined reading.
 
 pub mod operator;
+pub mod refusal;
 pub mod theorems;

@@ -1,7 +1,7 @@
 // What is proved of the grammar and of the defined reading.
 
 ghost use Rattle.grammar.specs.Examples.{Ranks, Repetition, Early-end, Impossible-word, Too-deep, Closed-levels};
-ghost use Rattle.grammar.specs.Meaning.{Sound, Complete, Unambiguous, Five, Six, Early, Few-names};
+ghost use Rattle.grammar.specs.Meaning.{Sound, Complete, Unambiguous, Unexpected-words, Too-deep-words, Early-ends, Few-names};
 
 // A few texts, read by the definitions.
 pub fn examples() -> u8
@@ -32,9 +32,9 @@ pub fn reading_is_complete() -> u8
 // Refusal 5 names the first word with which no sentence can go on, or an early end; refusal 6 a word that opens a
 // level too many.
 pub fn refusals_are_right() -> u8
-    ensures five { λ _. ⌜ Five ⌝ }
-    ensures six { λ _. ⌜ Six ⌝ }
-    ensures early { λ _. ⌜ Early ⌝ }
+    ensures unexpected { λ _. ⌜ Unexpected-words ⌝ }
+    ensures too_deep { λ _. ⌜ Too-deep-words ⌝ }
+    ensures early_ends { λ _. ⌜ Early-ends ⌝ }
 {
     0
 }
