@@ -25,7 +25,7 @@ use Rattle.words.specs.declared.refusal.WordRefusal.the-variants.{TextTooLong,
 use Rattle.words.proofs.OneWord.{leading-made-of}
 use Rattle.words.proofs.Spelled.{Kind, word-kind, number-kind, mark-kind, kind-of, no-empty-spelling}
 use Rattle.words.proofs.LongestWord.{Longest-found, longest-is, none-is, longest-at-is, longest→found, no-word→nothing, prefix-first}
-use Rattle.words.proofs.WordByWord.{onto, too-long-text, short-text}
+use Rattle.words.proofs.WordByWord.{onto, too-long-text, short-text, roomy-table-reads-all}
 
 -- The test of a word's length says whether it is short.
 short→Short : (s : List ℕ) (t : Token) → short t (length s) ≡ true → Short s t
@@ -254,8 +254,6 @@ pub reads→words-of : (text : List ℕ) (r : Words) → Reads text r → r ≡ 
 reads→words-of text r (text-too-long lt) = sym (too-long-text 500 text lt)
 reads→words-of text r (text-read le d) = reads-from→words-from r d ∙ sym (short-text 500 text le)
 
--- A table with room for 500 words does not limit them further.
+-- With room for 500 words in its table, what is read is the text's result by the rules.
 pub roomy-table-reads : (text : List ℕ) (n : ℕ) (r : Words) → r ≡ words-within (min 500 n) text → 500 ≤ n → Reads text r
-roomy-table-reads text n r e le =
-    let m : min 500 n ≡ 500 = omega arith in
-    subst (Reads text) (sym (e ∙ ap (λ k. words-within k text) m)) (words-of-reads text)
+roomy-table-reads text n r e le = subst (Reads text) (sym (e ∙ roomy-table-reads-all text n le)) (words-of-reads text)

@@ -3,14 +3,14 @@
 use mathlib.Core.Path.{_≡_, refl, sym, _∙_, ap}
 use mathlib.Core.Bool.{true, false, cond}
 use mathlib.Core.List.{List, [], _∷_, _++_, append-assoc, append-nil}
-use Prim.Native.Nat.{ℕ, zero, suc, _+_, _-_, _≤_, _<_}
+use Prim.Native.Nat.{ℕ, zero, suc, min, _+_, _-_, _≤_, _<_}
 use native.Mathlib.Omega.{arith}
 use lib.Dec.{ltb}
 use lib.ListN.{length, drop}
 use Rattle.std.proofs.shelf.Lists.{length-push}
 use Rattle.std.proofs.shelf.Tests.{lt-ltb, le-ltb, cond-true, cond-false}
 use Rattle.words.specs.Token.{Word}
-use Rattle.words.specs.Words.{Next, next-word, next-refused, end, next-of, Words, words, refused, more, one-more, no-more, words-from, words-within}
+use Rattle.words.specs.Words.{Next, next-word, next-refused, end, next-of, Words, words, refused, more, one-more, no-more, words-from, words-within, words-of}
 use Rattle.words.specs.declared.refusal.WordRefusal.{WordRefusal}
 use Rattle.words.specs.declared.refusal.WordRefusal.the-variants.{TextTooLong, TooManyWords}
 
@@ -35,6 +35,10 @@ too-long-text most text lt = cond-true (ltb 8192 (length text)) (refused TextToo
 pub short-text : (most : ℕ) (text : List ℕ) → length text ≤ 8192 → words-within most text ≡ words-from most 0 text
 unfolding words-within
 short-text most text le = cond-false (ltb 8192 (length text)) (refused TextTooLong 8192) (words-from most 0 text) (le-ltb 8192 (length text) le)
+
+-- A table with room for 500 words does not limit them further.
+pub roomy-table-reads-all : (text : List ℕ) (n : ℕ) → 500 ≤ n → words-within (min 500 n) text ≡ words-of text
+roomy-table-reads-all text n le = let m : min 500 n ≡ 500 = omega arith in ap (λ k. words-within k text) m
 
 -- The words ws were read before the place `at`, and at most so many may be.
 pub record So-far (most : ℕ) (text : List ℕ) (ws : List Word) (at : ℕ) : Type 0 where
