@@ -7,3 +7,4 @@ pub mod Rules
 pub mod Texts
 pub mod Examples
 pub mod Laws
+pub mod Typing

@@ -1,6 +1,7 @@
 // Laws of names, each proved as the contract of a function that does nothing.
 
-ghost use Rattle.symbols.specs.Laws.{Verdict-law, Table-law, Enough-cells};
+ghost use Rattle.symbols.specs.Laws.{Verdict-law, Table-law, Enough-cells, Names-law};
+ghost use Rattle.symbols.specs.Typing.{Types-law};
 
 // A tree is accepted only if it keeps all rules, and refused for the least that it breaks, at its earliest place.
 pub fn verdict_law_holds() -> u8
@@ -19,6 +20,20 @@ pub fn table_law_holds() -> u8
 // An accepted tree has at most 2,048 cells, named and hidden.
 pub fn cells_are_enough() -> u8
     ensures { λ _. ⌜ Enough-cells ⌝ }
+{
+    0
+}
+
+// In an accepted tree every name has one definition and one type at most, and all its uses agree with them.
+pub fn names_law_holds() -> u8
+    ensures { λ _. ⌜ Names-law ⌝ }
+{
+    0
+}
+
+// No part offends by its type just where the typing rules give every part the type that is wanted.
+pub fn types_law_holds() -> u8
+    ensures { λ _. ⌜ Types-law ⌝ }
 {
     0
 }
