@@ -25,7 +25,7 @@ use Rattle.code.specs.declared.operations.Role.{Role}
 use Rattle.code.specs.declared.operations.Role.the-variants.{End, Step, Label, Goto, Branch, Switch, JumpTable, Straight}
 use Rattle.code.specs.Operations.{operation, operand, role, taken, left}
 use Rattle.code.specs.Codes.{Code, operation-at, role-at}
-use Rattle.code.specs.Check.{Ruling, goes-on, breaks, Verdict, passes, refused, ruling, check, check-from, sizes-ok, opens, depth-after, operand-ok, depth-ok, place-ok, last-ok}
+use Rattle.code.specs.Check.{Ruling, goes-on, breaks, Verdict, passes, refused, ruling, check, check-from, sizes-ok, opens, depth-after, operand-ok, depth-ok, place-ok, target-ok, last-ok}
 use Rattle.code.specs.WellFormed.{depth-at, depth-past, Sound-at, Well-formed}
 use Rattle.code.proofs.Places.{operation-at-inside, role-at→operation-at, role→operation, sole}
 use Rattle.code.proofs.Rulings.{Keeps-rules, keeps-rules→goes-on, Keeps-depth, goes-on→keeps-rules, operand-ok→names, names→operand-ok, depth-ok→keeps-depth, keeps-depth→depth-ok, target-ok→leads, leads→place-ok, leads→last-ok}
@@ -129,7 +129,7 @@ passes→well-formed c ok =
     let long : length (c .operations) ≡ c .sizes .operations = grind (arith, tells) in
     let some : 1 ≤ c .sizes .operations = grind (arith, tells) in
     let first = keeps-rules c ok 0 (omega arith) in
-    let at-first = opens→mark-or-halt (first .0) (and-parts (opens (role (first .0))) _ (first .2 .place-rule) .0) in
+    let at-first = opens→mark-or-halt (first .0) (and-parts (opens (role (first .0))) (target-ok (c .operations) 0 (role (first .0)) (getD (c .operands) 0 0)) (first .2 .place-rule) .0) in
     record {
       some-operation = some;
       few-operations = grind (arith, tells);

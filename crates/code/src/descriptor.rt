@@ -5,7 +5,7 @@ ghost use Rattle.std.specs.declared.option.Option.the-variants.{Some};
 ghost use Rattle.code.specs.Descriptors.{low-bound, packed, range-ok, unpacked};
 
 // The cells `first` to `first + count - 1`; the low bound is held as `biased_low`, 10,000 more.
-#[derive(Clone, Copy, PartialEq, Debug)]
+#[derive(Clone, Copy)]
 pub struct Descriptor {
     pub first: usize,
     pub count: usize,

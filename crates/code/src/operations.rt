@@ -7,7 +7,7 @@ ghost use Rattle.code.specs.Operations.{operation, number, operand, role, take
 
 // An operation: its number, its operand, the figures that it takes from the stack and leaves there, and its effect.
 // Of two figures that are taken, the left operand lies lower.
-#[derive(Clone, Copy, PartialEq, Debug)]
+#[derive(Clone, Copy)]
 pub enum Operation {
     // 0, unused, 0 to 0: the run is at its end
     Halt,
@@ -72,7 +72,7 @@ pub enum Operation {
 }
 
 // What an operation's operand stands for.
-#[derive(Clone, Copy, PartialEq, Debug)]
+#[derive(Clone, Copy)]
 pub enum Operand {
     // nothing: it is 0
     Unused,
@@ -91,7 +91,7 @@ pub enum Operand {
 }
 
 // What an operation does to the flow of control.
-#[derive(Clone, Copy, PartialEq, Debug)]
+#[derive(Clone, Copy)]
 pub enum Role {
     // HALT
     End,
