@@ -4,3 +4,6 @@ pub mod Cells
 pub mod Table
 pub mod Names
 pub mod Types
+pub mod Bounds
+pub mod Labels
+pub mod Jumps

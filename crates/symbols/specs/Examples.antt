@@ -1,9 +1,11 @@
 -- Texts, and what is told of them, worked out by the definitions from the bytes on.
 use mathlib.Core.Path.{_≡_}
 use mathlib.Core.Bool.{Bool, true, false}
-use mathlib.Core.List.{List}
+use mathlib.Core.List.{List, [], _∷_, map}
 use Prim.Native.Nat.{ℕ}
 use lib.Chars.{codes}
+use Rattle.symbols.specs.declared.value_type.ValueType.the-variants.{Untyped, Integer}
+use Rattle.symbols.specs.Symbols.{Symbol, count, symbols}
 use Rattle.symbols.specs.Texts.{Answer, accepted, refused, answer}
 
 abbrev pub Refuses : List ℕ → ℕ → ℕ → Type 0
@@ -15,6 +17,20 @@ is-accepted (refused n p) = false
 
 abbrev pub Accepts : List ℕ → Type 0
 Accepts text = is-accepted (answer text) ≡ true
+
+-- The lines of an accepted text's table.
+abbrev pub table-of : Answer → List Symbol
+table-of (accepted t) = symbols t
+table-of (refused n p) = []
+
+abbrev pub four-names : List Symbol
+four-names = table-of (answer (codes "integer(k); array(a, b[-1:1]); for i := 1; k := a[i]"))
+
+pub record Table : Type 0 where
+  pub places : map (λ s. s .name .place) four-names ≡ 8 ∷ (18 ∷ (21 ∷ (35 ∷ [])))
+  pub first-cells : map (λ s. s .first) four-names ≡ 0 ∷ (1 ∷ (4 ∷ (7 ∷ [])))
+  pub counts : map count four-names ≡ 1 ∷ (3 ∷ (3 ∷ (1 ∷ [])))
+  pub types : map (λ s. s .type) four-names ≡ Integer ∷ (Untyped ∷ (Untyped ∷ (Untyped ∷ [])))
 
 -- Rule 7: a name is defined once and typed once, and a label or a switch has no type.
 pub record Definitions : Type 0 where

@@ -6,12 +6,14 @@ use mathlib.Core.List.{List, [], _∷_, _++_}
 use Prim.Native.Nat.{ℕ, _+_, _≤_, _<_}
 use Rattle.std.specs.declared.option.Option.{Option}
 use Rattle.std.specs.declared.option.Option.the-variants.{Some, None}
-use Rattle.grammar.specs.Tree.{Program}
+use lib.IntN.{pos, _+ℤ_, _-ℤ_}
+use lib.Signed.{_≤ℤ_}
+use Rattle.grammar.specs.Tree.{Bound, Program}
 use Rattle.symbols.specs.declared.value_type.ValueType.{ValueType}
 use Rattle.symbols.specs.declared.refusal.NameRefusal.{NameRefusal}
 use Rattle.symbols.specs.Refusal.{number}
-use Rattle.symbols.specs.Occurrences.{Role, Occurrence, occurrences}
-use Rattle.symbols.specs.Symbols.{Kind, a-variable, definition, declared-type, Symbol, count, symbols, kind-in, type-in, named-cells, hidden-cells}
+use Rattle.symbols.specs.Occurrences.{Role, as-array, Occurrence, occurrences}
+use Rattle.symbols.specs.Symbols.{Kind, an-array, definition, declared-type, bound-value, cells, Symbol, count, symbols, kind-in, type-in, named-cells, hidden-cells}
 use Rattle.symbols.specs.Rules.{target, is-some, suits, offences, Verdict, accepted, refused, verdict}
 
 -- x stands in a list.
@@ -72,6 +74,17 @@ pub record Names-agree (t : Program) : Type 0 where
   pub kind-is : (o : Occurrence) (k : Kind) → In o (occurrences t) → definition (o .role) ≡ Some k → kind-in (symbols t) (o .name .letters) ≡ k
   pub type-is : (o : Occurrence) (y : ValueType) → In o (occurrences t) → declared-type (o .role) ≡ Some y → type-in (symbols t) (o .name .letters) ≡ y
   pub uses-suit : (o : Occurrence) → In o (occurrences t) → suits (kind-in (symbols t) (o .name .letters)) (o .role) ≡ true
+
+-- An array's bounds are in order and near enough to 0, and its cells are as many as its subscripts, at least one.
+pub record Bounds-in-range (l h : Bound) : Type 0 where
+  pub in-order : bound-value l ≤ℤ bound-value h
+  pub low-near : l .size ≤ 9999
+  pub high-near : h .size ≤ 9999
+  pub as-many : pos (cells (an-array l h)) ≡ bound-value h -ℤ bound-value l +ℤ pos 1
+  pub at-least-one : 1 ≤ cells (an-array l h)
+
+abbrev pub Bounds-law : Type 0
+Bounds-law = (t : Program) → verdict t ≡ accepted → (o : Occurrence) (l h : Bound) → In o (occurrences t) → o .role ≡ as-array l h → Bounds-in-range l h
 
 abbrev pub Names-law : Type 0
 Names-law = (t : Program) → verdict t ≡ accepted → Names-agree t

@@ -8,3 +8,4 @@ pub mod Texts
 pub mod Examples
 pub mod Laws
 pub mod Typing
+pub mod ForsAround

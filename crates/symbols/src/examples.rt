@@ -1,6 +1,13 @@
 // Worked texts, each group proved as the contract of a function that does nothing.
 
-ghost use Rattle.symbols.specs.Examples.{Definitions, Uses, Types, Jumps, Cells, Earlier-tests};
+ghost use Rattle.symbols.specs.Examples.{Table, Definitions, Uses, Types, Jumps, Cells, Earlier-tests};
+
+// Names stand in the table where they first appear, and their cells follow one another.
+pub fn cells_in_order() -> u8
+    ensures { λ _. ⌜ Table ⌝ }
+{
+    0
+}
 
 // A name is defined and typed once.
 pub fn definitions_once() -> u8

@@ -1,6 +1,7 @@
 // Laws of names, each proved as the contract of a function that does nothing.
 
-ghost use Rattle.symbols.specs.Laws.{Verdict-law, Table-law, Enough-cells, Names-law};
+ghost use Rattle.symbols.specs.Laws.{Verdict-law, Table-law, Enough-cells, Bounds-law, Names-law};
+ghost use Rattle.symbols.specs.ForsAround.{Jumps-law};
 ghost use Rattle.symbols.specs.Typing.{Types-law};
 
 // A tree is accepted only if it keeps all rules, and refused for the least that it breaks, at its earliest place.
@@ -34,6 +35,20 @@ pub fn names_law_holds() -> u8
 // No part offends by its type just where the typing rules give every part the type that is wanted.
 pub fn types_law_holds() -> u8
     ensures { λ _. ⌜ Types-law ⌝ }
+{
+    0
+}
+
+// In an accepted tree every for around a label is around each go to that can lead there.
+pub fn jumps_law_holds() -> u8
+    ensures { λ _. ⌜ Jumps-law ⌝ }
+{
+    0
+}
+
+// In an accepted tree an array's bounds are in order and within 9,999 either way, and it has a cell for each subscript.
+pub fn bounds_law_holds() -> u8
+    ensures { λ _. ⌜ Bounds-law ⌝ }
 {
     0
 }
