@@ -1,7 +1,7 @@
 -- Where switches and go tos lead.
 use mathlib.Core.Path.{_≡_, refl, sym, _∙_, ap}
 use mathlib.Core.Bool.{Bool, true, false, cond, _||_}
-use mathlib.Core.List.{List}
+use mathlib.Core.List.{List, [], _∷_, _++_}
 use Prim.Native.Nat.{ℕ}
 use native.Mathlib.Omega.{arith}
 use Rattle.std.specs.declared.option.Option.{Option}
@@ -9,29 +9,44 @@ use Rattle.std.specs.declared.option.Option.the-variants.{Some, None}
 use Rattle.std.specs.shelf.Text.{sameBytes}
 use Rattle.grammar.specs.Tree.{Name, Exp, Element, Statement, labelled, conditional, repeated, assigned, go, switched, input, printed, stop, sequence}
 use Rattle.figures.specs.Kinds.{Kind, Outcome, value}
+use Rattle.symbols.specs.Jumps.{open-labels, is-among}
 use Rattle.meaning.specs.Names.{Names}
 use Rattle.meaning.specs.Positions.{Loop, Continuation, nothing, rest, turn, Position, at-go, at-switch, enter, leave, find, destination, kth}
 use Rattle.meaning.specs.Machine.{Memory, State, Next, next, state, on-to, worked-out, figure-of, go-or-leave, after-switch, step}
 use Rattle.meaning.specs.Laws.{has-label, Out-of, out, of-block, of-for, Switch-law, Jump-law}
 
-true-is-not-false : true ≡ false → ⊥
+pub true-is-not-false : true ≡ false → ⊥
 true-is-not-false e = let z : _≡_ {A = ℕ} 0 1 = cc in omega arith
+
+or-assoc : (a b c : Bool) → (a || (b || c)) ≡ ((a || b) || c)
+or-assoc true b c = refl
+or-assoc false b c = refl
 
 -- A disjunction that is false has two false parts.
 neither : (a b : Bool) → (a || b) ≡ false → (a ≡ false) × (b ≡ false)
 neither true b e = absurd (true-is-not-false e)
 neither false b e = (refl, e)
 
--- What `find` makes of a labelled statement, by whether the label is the one looked for.
-unlabelled : (b c : Bool) (p q : Position) → cond b true c ≡ false → (c ≡ false → q ≡ p) → (r : Position) → cond b r q ≡ p
-unlabelled true c p q e h r = absurd (true-is-not-false e)
-unlabelled false c p q e h r = h e
+-- Letters among two lists are among one of them.
+pub among-both : (xs ys : List (List ℕ)) (l : List ℕ) → is-among (xs ++ ys) l ≡ (is-among xs l || is-among ys l)
+among-both [] ys l = refl
+among-both (x ∷ xs) ys l = ap (λ b. sameBytes l x || b) (among-both xs ys l) ∙ or-assoc (sameBytes l x) (is-among xs l) (is-among ys l)
+
+pub among-neither : (xs ys : List (List ℕ)) (l : List ℕ) → is-among (xs ++ ys) l ≡ false → (is-among xs l ≡ false) × (is-among ys l ≡ false)
+among-neither xs ys l e = neither (is-among xs l) (is-among ys l) (sym (among-both xs ys l) ∙ e)
+
+-- What `find` makes of a labelled statement whose label is not the one looked for.
+unlabelled : (b : Bool) (r q : Position) → b ≡ false → cond b r q ≡ q
+unlabelled true r q e = absurd (true-is-not-false e)
+unlabelled false r q e = refl
 
 -- Where the label is missing, `find` gives what it was to give otherwise.
-find-misses : (l : List ℕ) (s : Statement) (k : Continuation) (o : Position) → has-label l s ≡ false → find l s k o ≡ o
-find-misses l (labelled m s) k o e = unlabelled (sameBytes l (m .letters)) (has-label l s) o (find l s k o) e (find-misses l s k o) (enter s k)
+pub find-misses : (l : List ℕ) (s : Statement) (k : Continuation) (o : Position) → has-label l s ≡ false → find l s k o ≡ o
+find-misses l (labelled m s) k o e =
+    let h = neither (sameBytes l (m .letters)) (has-label l s) e in
+    unlabelled (sameBytes l (m .letters)) (enter s k) (find l s k o) (h .0) ∙ find-misses l s k o (h .1)
 find-misses l (sequence a b) k o e =
-    let h = neither (has-label l a) (has-label l b) e in
+    let h = among-neither (open-labels a) (open-labels b) l e in
     find-misses l a (rest b k) (find l b k o) (h .0) ∙ find-misses l b k o (h .1)
 find-misses l (conditional p x s) k o e = find-misses l s k o e
 find-misses l (repeated p x es s) k o e = refl

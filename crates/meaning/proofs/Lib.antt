@@ -1,4 +1,6 @@
 pub mod Running
 pub mod Jumping
 pub mod Changing
+pub mod Reaching
 pub mod Keeping
+pub mod Landing

@@ -5,19 +5,13 @@ use Prim.Native.Nat.{ℕ}
 use Prim.Native.String.{String}
 use lib.Chars.{codes}
 use lib.IntN.{ℤ, pos, negsuc}
-use lib.ListN.{length}
-use Rattle.words.specs.Words.{Words, words, refused as word-refused, words-of}
-use Rattle.words.specs.Refusal.{number as word-number}
-use Rattle.grammar.specs.Tree.{Program}
-use Rattle.grammar.specs.Parser.{Outcome, tree, refused as parse-refused, parsed}
-use Rattle.symbols.specs.Rules.{Verdict, accepted, refused as name-refused, verdict}
-use Rattle.symbols.specs.Refusal.{number as name-number}
+use Rattle.symbols.specs.Texts.{Answer, accepted, refused as text-refused, answer}
 use Rattle.figures.specs.Kinds.{Kind, is-zero}
 use Rattle.figures.specs.Whole.{whole}
 use Rattle.figures.specs.Hundredths.{hundredths}
-use Rattle.rolls.specs.Contents.{Contents, all-of}
+use Rattle.rolls.specs.Contents.{Contents, damaged-at, all-of}
 use Rattle.rolls.specs.Groups.{kept}
-use Rattle.std.specs.declared.option.Option.the-variants.{None}
+use Rattle.std.specs.declared.option.Option.the-variants.{Some, None}
 use Rattle.meaning.specs.Names.{names-of}
 use Rattle.meaning.specs.Positions.{statements}
 use Rattle.meaning.specs.Runs.{initial, Final, ended, faulted, Status, over, Progress, advance}
@@ -33,20 +27,12 @@ module _ {V : Type 0} (kind : Kind V) (cells : List V) (roll : Contents V) (book
   result-of p = ran (p .made) (p .reached .memory .cells) (p .reached .memory .posted) (p .status)
 
   -- A hundred steps at most.
-  abbrev run-accepted : Program → Verdict → Result V
-  run-accepted t (name-refused r p) = refused (name-number r) p
-  run-accepted t accepted = result-of (advance kind (names-of t) (statements t) 100 (initial (statements t) cells roll book-length))
-
-  abbrev run-parsed : Outcome → Result V
-  run-parsed (parse-refused n p) = refused n p
-  run-parsed (tree t) = run-accepted t (verdict t)
-
-  abbrev run-words : ℕ → Words → Result V
-  run-words end (word-refused r p) = refused (word-number r) p
-  run-words end (words ws) = run-parsed (parsed 32 end ws)
+  abbrev result-for : Answer → Result V
+  result-for (text-refused n p) = refused n p
+  result-for (accepted t) = result-of (advance kind (names-of t) (statements t) 100 (initial (statements t) cells roll book-length))
 
   unfoldable pub comes-of : String → Result V
-  comes-of text = run-words (length (codes text)) (words-of (codes text))
+  comes-of text = result-for (answer (codes text))
 
 abbrev pub none : Contents ℤ
 none = all-of []
@@ -78,3 +64,31 @@ pub record Worked-cases : Type 0 where
   pub members-summed : comes-of whole (pos 0 ∷ pos 0 ∷ pos 0 ∷ pos 0 ∷ []) (all-of (pos 2 ∷ pos 10 ∷ pos 20 ∷ [])) 1
       "in=:(n); s:=0; for i:=1(1)n; begin in=:(x); s:=s+x end; print(s)"
       ≡ ran 12 (pos 2 ∷ pos 30 ∷ pos 3 ∷ pos 20 ∷ []) (pos 30 ∷ []) (over ended)
+
+-- A run that is over by a fault at a place of the text.
+abbrev pub fault-at : ℕ → ℕ → Status
+fault-at n p = over (faulted (record { number = n; place = p; roll-place = None }))
+
+pub record More-cases : Type 0 where
+  -- a negative step counts down; the element after the progression comes next
+  pub counts-down : comes-of whole (pos 0 ∷ []) none 4 "for i := 3(-1)1, 9; print(i)"
+      ≡ ran 12 (pos 9 ∷ []) (pos 3 ∷ pos 2 ∷ pos 1 ∷ pos 9 ∷ []) (over ended)
+  -- a go to leaves the loop; the control variable keeps its figure: i, j
+  pub goes-out : comes-of whole (pos 0 ∷ pos 0 ∷ []) none 1 "i := 1; for j := 1(1)9; begin if (j >= 4); go to out; i := i*2 end; out: print(i)"
+      ≡ ran 17 (pos 8 ∷ pos 4 ∷ []) (pos 8 ∷ []) (over ended)
+  -- a go to inside the body of a for stays in the turn
+  pub goes-on-inside : comes-of whole (pos 0 ∷ pos 0 ∷ []) none 0 "for i := 1, 2; begin go to a; stop; a: x := x+i end"
+      ≡ ran 6 (pos 2 ∷ pos 3 ∷ []) [] (over ended)
+  -- both operands are worked out, also where the right one decides alone
+  pub both-operands : comes-of whole (pos 0 ∷ []) none 0 "boolean(p); p := (1/0 > 1) and 0" ≡ ran 0 (pos 0 ∷ []) [] (fault-at 32 12)
+  -- the subscript is tested before the right side is worked out
+  pub subscript-first : comes-of whole (pos 0 ∷ pos 0 ∷ pos 0 ∷ []) none 0 "array(a[-1:1]); a[2] := 1/0"
+      ≡ ran 0 (pos 0 ∷ pos 0 ∷ pos 0 ∷ []) [] (fault-at 36 16)
+  -- each figure of a print is a step of its own
+  pub book-full : comes-of whole [] none 1 "print(1, 2)" ≡ ran 1 [] (pos 1 ∷ []) (fault-at 35 0)
+  -- an empty roll at its end, and at damage
+  pub roll-ended : comes-of whole (pos 0 ∷ []) (all-of (pos 5 ∷ [])) 0 "in =: (x); a: in =: (x)" ≡ ran 1 (pos 5 ∷ []) [] (fault-at 33 14)
+  pub roll-damaged : comes-of whole (pos 0 ∷ []) (record { figures = pos 5 ∷ []; ending = damaged-at 2 }) 0 "in =: (x); a: in =: (x)"
+      ≡ ran 1 (pos 5 ∷ []) [] (over (faulted (record { number = 34; place = 14; roll-place = Some 2 })))
+  -- a text without a statement is at its end
+  pub no-statement : comes-of whole [] none 0 "comment nothing to do" ≡ ran 0 [] [] (over ended)

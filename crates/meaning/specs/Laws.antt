@@ -1,15 +1,15 @@
 -- Laws of the statement machine, in the words of those who rely on it, for every kind of figures, every table of names and
 -- every text. Rolls come in as what they mean, a list of figures and an ending.
 use mathlib.Core.Path.{_≡_}
-use mathlib.Core.Bool.{Bool, true, false, cond, _||_}
+use mathlib.Core.Bool.{Bool, true, false}
 use mathlib.Core.List.{List, [], _∷_, _++_}
 use Prim.Native.Nat.{ℕ, zero, suc, _+_, _≤_, _<_}
 use lib.ListN.{length}
 use Rattle.std.specs.declared.option.Option.{Option}
 use Rattle.std.specs.declared.option.Option.the-variants.{Some, None}
-use Rattle.std.specs.shelf.Text.{sameBytes}
 use Rattle.grammar.specs.Tree.{Row, Name, Exp, Variable, Element, Statement, labelled, conditional, repeated, assigned, go, switched, input, printed, stop, sequence}
 use Rattle.figures.specs.Kinds.{Kind, Outcome, value}
+use Rattle.symbols.specs.Jumps.{open-labels, is-among}
 use Rattle.rolls.specs.Contents.{Contents}
 use Rattle.meaning.specs.Names.{Names}
 use Rattle.meaning.specs.Expressions.{figure-in}
@@ -41,16 +41,7 @@ Never-stored names (Some s) c = (x : List ℕ) → Stores s x → Has-cell names
 
 -- Does a label stand in a statement, outside of the bodies of its fors?
 abbrev pub has-label : List ℕ → Statement → Bool
-has-label l (labelled m s) = cond (sameBytes l (m .letters)) true (has-label l s)
-has-label l (sequence a b) = has-label l a || has-label l b
-has-label l (conditional p e s) = has-label l s
-has-label l (repeated p x es s) = false
-has-label l (assigned v e) = false
-has-label l (go p m) = false
-has-label l (switched p x e) = false
-has-label l (input p v) = false
-has-label l (printed p es) = false
-has-label l (stop p) = false
+has-label l s = is-among (open-labels s) l
 
 -- From the surroundings k out to the surroundings j: rests of blocks are passed, and fors whose bodies have no label l.
 pub data Out-of (l : List ℕ) (j : Continuation) : Continuation → Type 0 where

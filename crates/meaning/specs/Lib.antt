@@ -4,4 +4,5 @@ pub mod Positions
 pub mod Machine
 pub mod Runs
 pub mod Laws
+pub mod Landing
 pub mod Cases

@@ -7,15 +7,28 @@ use Rattle.meaning.proofs.cases.worked_cases_hold.Needs as need
 pub returns : need.returns
 unfolding name-token mark-at words-of verdict comes-of
 returns c = record {
-  quotient = refl;
-  signed-quotient = refl;
-  at-the-range = refl;
-  past-the-range = refl;
-  progression-tested-late = refl;
-  switch-goes-on = refl;
-  switch-goes-there = refl;
-  truth-stored = refl;
-  rounded = refl;
-  leavers-dropped = refl;
-  members-summed = refl;
+  worked = record {
+    quotient = refl;
+    signed-quotient = refl;
+    at-the-range = refl;
+    past-the-range = refl;
+    progression-tested-late = refl;
+    switch-goes-on = refl;
+    switch-goes-there = refl;
+    truth-stored = refl;
+    rounded = refl;
+    leavers-dropped = refl;
+    members-summed = refl;
+  };
+  more = record {
+    counts-down = refl;
+    goes-out = refl;
+    goes-on-inside = refl;
+    both-operands = refl;
+    subscript-first = refl;
+    book-full = refl;
+    roll-ended = refl;
+    roll-damaged = refl;
+    no-statement = refl;
+  };
 }

@@ -1,0 +1,42 @@
+-- Where the go tos of an accepted text lead: each to the statement behind its label. The rules on names and jumps make the
+-- search for labels exact, and no run comes to an end for want of a label.
+use mathlib.Core.Path.{_≡_}
+use mathlib.Core.List.{List}
+use Prim.Native.Nat.{ℕ}
+use Rattle.std.specs.declared.option.Option.{Option}
+use Rattle.std.specs.declared.option.Option.the-variants.{Some, None}
+use Rattle.grammar.specs.Tree.{Row, Name, Exp, Element, Statement, labelled, conditional, repeated, sequence, Program}
+use Rattle.symbols.specs.Rules.{accepted, verdict}
+use Rattle.symbols.specs.Laws.{In}
+use Rattle.figures.specs.Kinds.{Kind}
+use Rattle.rolls.specs.Contents.{Contents}
+use Rattle.meaning.specs.Names.{names-of}
+use Rattle.meaning.specs.Positions.{Continuation, Position, at-go, at-switch, enter, destination, statements}
+use Rattle.meaning.specs.Machine.{State}
+use Rattle.meaning.specs.Runs.{initial, Steps}
+
+-- The statement s stands behind the label l in another statement, at whatever depth.
+pub data Stands (l : List ℕ) (s : Statement) : Statement → Type 0 where
+  label-here : {m : Name} → l ≡ m .letters → Stands l s (labelled m s)
+  past-label : {m : Name} {r : Statement} → Stands l s r → Stands l s (labelled m r)
+  past-if : {p : ℕ} {e : Exp} {r : Statement} → Stands l s r → Stands l s (conditional p e r)
+  past-for : {p : ℕ} {x : Name} {es : Row Element} {r : Statement} → Stands l s r → Stands l s (repeated p x es r)
+  in-front : {a b : Statement} → Stands l s a → Stands l s (sequence a b)
+  at-back : {a b : Statement} → Stands l s b → Stands l s (sequence a b)
+
+abbrev pub Stands-in-text : List ℕ → Statement → Option Statement → Type 0
+Stands-in-text l s None = ⊥
+Stands-in-text l s (Some r) = Stands l s r
+
+-- A position is the first step of a statement behind the label l.
+pub record Lands (text : Option Statement) (l : List ℕ) (p : Position) : Type 0 where
+  pub statement : Statement
+  pub surroundings : Continuation
+  pub stands : Stands-in-text l statement text
+  pub lands : p ≡ enter statement surroundings
+
+-- Wherever a run of an accepted text comes to a go to, its label is found.
+abbrev pub Landing-law : {V : Type 0} → Kind V → Type 0
+Landing-law {V} kind = (t : Program) → verdict t ≡ accepted → (cells : List V) (roll : Contents V) (room n : ℕ) (u : State V)
+    → Steps kind (names-of t) (statements t) (initial (statements t) cells roll room) n u
+    → (p : ℕ) (l : Name) (k : Continuation) → u .position ≡ at-go p l k → Lands (statements t) (l .letters) (destination (statements t) (l .letters) k)
