@@ -1,0 +1,5 @@
+pub mod Arrays
+pub mod Values
+pub mod Facts
+pub mod Performing
+pub mod Stepping
