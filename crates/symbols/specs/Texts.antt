@@ -5,6 +5,7 @@ use Prim.Native.Nat.{ℕ}
 use lib.ListN.{length}
 use Rattle.words.specs.Refusal.{number as word-number}
 use Rattle.words.specs.Words.{Words, words, refused as words-refused, words-of}
+use Rattle.grammar.specs.Refusal.{number as sentence-number}
 use Rattle.grammar.specs.Tree.{Program}
 use Rattle.grammar.specs.Parser.{Outcome, tree, refused as sentence-refused, parsed}
 use Rattle.symbols.specs.Refusal.{number}
@@ -23,7 +24,7 @@ of-verdict t (names-refused r p) = refused (number r) p
 
 abbrev pub of-sentence : Outcome → Answer
 of-sentence (tree t) = of-verdict t (verdict t)
-of-sentence (sentence-refused n p) = refused n p
+of-sentence (sentence-refused r p) = refused (sentence-number r) p
 
 abbrev pub of-words : ℕ → Words → Answer
 of-words end (words ws) = of-sentence (parsed most-levels end ws)
