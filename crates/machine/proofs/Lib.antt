@@ -3,3 +3,4 @@ pub mod Values
 pub mod Facts
 pub mod Performing
 pub mod Stepping
+pub mod Subscripts
