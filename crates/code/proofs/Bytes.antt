@@ -20,7 +20,8 @@ unfolding number-of
 number-of-done bs i l = at-drop-all number-of bs i l
 
 -- Four bytes and eight bytes, as the byte-order methods read and write them.
-pub number-of-4 : (bs : List ℕ) → length bs ≡ 4 → number-of bs ≡ getD bs 0 0 + getD bs 1 0 * 256 + getD bs 2 0 * 65536 + getD bs 3 0 * 16777216
+pub number-of-4 : (bs : List ℕ) → length bs ≡ 4
+    → number-of bs ≡ getD bs 0 0 + getD bs 1 0 * 256 + getD bs 2 0 * 65536 + getD bs 3 0 * 16777216
 number-of-4 bs e =
     omega (arith, number-of-more bs 0 (omega arith), number-of-more bs 1 (omega arith), number-of-more bs 2 (omega arith), number-of-more bs 3 (omega arith), number-of-done bs 4 (omega arith))
 
@@ -69,7 +70,8 @@ module _ (at k x : ℕ) (before after : List ℕ) {word : List ℕ} (e : word �
 pub drop-beyond : (m n : ℕ) (before after : List ℕ) → m ≤ n → drop m after ≡ drop m before → drop n after ≡ drop n before
 drop-beyond m n before after l h =
     let step : m + (n - m) ≡ n = omega arith in
-    ap (λ k. drop k after) (sym step) ∙ sym (drop-drop (n - m) m after) ∙ ap (drop (n - m)) h ∙ drop-drop (n - m) m before ∙ ap (λ k. drop k before) step
+    ap (λ k. drop k after) (sym step) ∙ sym (drop-drop (n - m) m after) ∙ ap (drop (n - m)) h ∙ drop-drop (n - m) m before
+    ∙ ap (λ k. drop k before) step
 
 -- One operand more is written.
 pub joined-step : (at i : ℕ) (xs front before after : List ℕ) → i < length xs
@@ -99,6 +101,9 @@ pub numbers-step : (i at v : ℕ) (bs xs : List ℕ) {before : List ℕ} → i <
     → set before i v ≡ numbers (i + 1) (drop at bs) ++ drop (i + 1) xs
 numbers-step i at v bs xs {before} l h e =
     let front = numbers i (drop at bs) in
-    let next : numbers (i + 1) (drop at bs) ≡ front ++ (v ∷ []) = ap (λ n. numbers n (drop at bs)) (add-one i) ∙ numbers-more i (drop at bs) ∙ ap (λ t. front ++ (number-of (take 8 t) ∷ [])) (drop-drop (8 * i) at bs) ∙ ap (λ w. front ++ (w ∷ [])) (sym e) in
-    ap (λ t. set t i v) (h ∙ ap (λ t. front ++ t) (drop-more xs i 0 l)) ∙ set-at front (getD xs i 0) (drop (i + 1) xs) v i (length-numbers i (drop at bs))
+    let next : numbers (i + 1) (drop at bs) ≡ front ++ (v ∷ []) =
+    ap (λ n. numbers n (drop at bs)) (add-one i) ∙ numbers-more i (drop at bs)
+    ∙ ap (λ t. front ++ (number-of (take 8 t) ∷ [])) (drop-drop (8 * i) at bs) ∙ ap (λ w. front ++ (w ∷ [])) (sym e) in
+    ap (λ t. set t i v) (h ∙ ap (λ t. front ++ t) (drop-more xs i 0 l))
+    ∙ set-at front (getD xs i 0) (drop (i + 1) xs) v i (length-numbers i (drop at bs))
     ∙ sym (append-assoc front (v ∷ []) (drop (i + 1) xs)) ∙ ap (λ t. t ++ drop (i + 1) xs) (sym next)

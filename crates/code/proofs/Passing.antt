@@ -79,7 +79,8 @@ module _ (c : Code) (ok : check c ≡ passes) where
       × Keeps-rules (c .sizes) (c .operations) i (getD (c .operands) i 0) (depth-at (c .operations) i) (depth-at (c .operations) (suc i)) o
   keeps-rules i l = let s = step i l (passes-from i (omega arith)) in (s .0, s .1, s .2)
 
-  keeps-depth : (i : ℕ) (l : i < length (c .operations)) → Keeps-depth (c .sizes) (keeps-rules i l .0) (depth-at (c .operations) i) (depth-at (c .operations) (suc i))
+  keeps-depth : (i : ℕ) (l : i < length (c .operations))
+      → Keeps-depth (c .sizes) (keeps-rules i l .0) (depth-at (c .operations) i) (depth-at (c .operations) (suc i))
   keeps-depth i l =
       let k = keeps-rules i l in
       subst (λ (d : ℕ). Keeps-depth (c .sizes) (k .0) (depth-at (c .operations) i) d) (sym (k .2 .after)) (depth-ok→keeps-depth (c .sizes) (k .0) _ (k .2 .depth-rule))
@@ -123,13 +124,18 @@ opens→mark-or-halt o = at-role (role o) refl
     at-role JumpTable e h = clash h
     at-role Straight e h = clash h
 
+opens→stands : (os : List ℕ) (o : Operation) → operation-at os 0 ≡ Some o → opens (role o) ≡ true
+    → (operation-at os 0 ≡ Some Mark) ⊎ (operation-at os 0 ≡ Some Halt)
+opens→stands os o e h = ⊎-elim (λ q. inl (e ∙ ap Some q)) (λ q. inr (e ∙ ap Some q)) (opens→mark-or-halt o h)
+
 pub passes→well-formed : (c : Code) → check c ≡ passes → Well-formed c
 passes→well-formed c ok =
     let sizes = sizes-pass c ok in
     let long : length (c .operations) ≡ c .sizes .operations = grind (arith, tells) in
     let some : 1 ≤ c .sizes .operations = grind (arith, tells) in
     let first = keeps-rules c ok 0 (omega arith) in
-    let at-first = opens→mark-or-halt (first .0) (and-parts (opens (role (first .0))) (target-ok (c .operations) 0 (role (first .0)) (getD (c .operands) 0 0)) (first .2 .place-rule) .0) in
+    let test =
+    and-parts (opens (role (first .0))) (target-ok (c .operations) 0 (role (first .0)) (getD (c .operands) 0 0)) (first .2 .place-rule) in
     record {
       some-operation = some;
       few-operations = grind (arith, tells);
@@ -138,7 +144,7 @@ passes→well-formed c ok =
       shallow = grind (arith, tells);
       operations-long = long;
       operands-long = grind (arith, tells);
-      opens = ⊎-elim (λ e. inl (first .1 ∙ ap Some e)) (λ e. inr (first .1 ∙ ap Some e)) at-first;
+      opens = opens→stands (c .operations) (first .0) (first .1) (test .0);
       sound = λ i l. passes→sound c ok i (omega arith);
     }
 
@@ -153,14 +159,16 @@ module _ (c : Code) (w : Well-formed c) where
           let k : o ≡ p = cc in
           ap (λ o. opens (role o)) k ∙ h
 
-  goes-on-at : (i : ℕ) → i < length (c .operations) → goes-on (depth-at (c .operations) (suc i)) ≡ ruling-at c i (depth-at (c .operations) i)
+  goes-on-at : (i : ℕ) → i < length (c .operations)
+      → goes-on (depth-at (c .operations) (suc i)) ≡ ruling-at c i (depth-at (c .operations) i)
   goes-on-at i l =
       let long = w .operations-long in
       let s = w .sound i (omega arith) in
       let o = s .0 in
       let k = s .1 in
       let after = depth-at-suc (c .operations) i o (k .stands) in
-      let deep : Keeps-depth (c .sizes) o (depth-at (c .operations) i) (depth-after o (depth-at (c .operations) i)) = subst (λ (d : ℕ). Keeps-depth (c .sizes) o (depth-at (c .operations) i) d) after (record { enough = k .enough; within = k .left; none-before = k .none-before; none-after = k .none-after }) in
+      let deep : Keeps-depth (c .sizes) o (depth-at (c .operations) i) (depth-after o (depth-at (c .operations) i)) =
+      subst (λ (d : ℕ). Keeps-depth (c .sizes) o (depth-at (c .operations) i) d) after (record { enough = k .enough; within = k .left; none-before = k .none-before; none-after = k .none-after }) in
       sym (keeps-rules→goes-on (c .sizes) (c .operations) i _ (depth-at (c .operations) i) o
       (names→operand-ok (c .sizes) (operand o) _ (k .names))
       (keeps-depth→depth-ok (c .sizes) o _ deep)
@@ -172,7 +180,8 @@ module _ (c : Code) (w : Well-formed c) where
   passes-to-end zero i e = check-done c i _ (omega arith)
   passes-to-end (suc k) i e =
       let l : i < length (c .operations) = omega arith in
-      check-more c i _ _ l (goes-on-at i l) ∙ subst (λ (n : ℕ). check-from c (drop n (c .operations)) n (depth-at (c .operations) (suc i)) ≡ passes) (sym (add-one i)) (passes-to-end k (suc i) (omega arith))
+      check-more c i _ _ l (goes-on-at i l)
+      ∙ subst (λ (n : ℕ). check-from c (drop n (c .operations)) n (depth-at (c .operations) (suc i)) ≡ passes) (sym (add-one i)) (passes-to-end k (suc i) (omega arith))
 
   pub well-formed→passes : check c ≡ passes
   unfolding depth-at

@@ -38,7 +38,8 @@ abbrev numbered : ℕ → List Operation → Bool
 numbered k [] = true
 numbered k (o ∷ os) = eqb (number o) k && numbered (suc k) os
 
-numbered→number : (k : ℕ) (os : List Operation) → numbered k os ≡ true → (b : ℕ) (o : Operation) → getD (map Some os) b None ≡ Some o → number o ≡ k + b
+numbered→number : (k : ℕ) (os : List Operation) → numbered k os ≡ true → (b : ℕ) (o : Operation) → getD (map Some os) b None ≡ Some o
+    → number o ≡ k + b
 numbered→number k [] t b o e = cc
 numbered→number k (p ∷ ps) t zero o e =
     let q : p ≡ o = cc in
@@ -95,7 +96,8 @@ role→operation TakeW p e = cc
 role→operation Post p e = cc
 
 -- Where a role has one operation, that one stands at the place.
-pub role-at→operation-at : (os : List ℕ) (i : ℕ) (r : Role) (p : Operation) → role-at os i ≡ Some r → sole r ≡ Some p → operation-at os i ≡ Some p
+pub role-at→operation-at : (os : List ℕ) (i : ℕ) (r : Role) (p : Operation) → role-at os i ≡ Some r → sole r ≡ Some p
+    → operation-at os i ≡ Some p
 role-at→operation-at os i r p e q = go (operation-at os i) e
   where
     go : (o : Option Operation) → mapped role o ≡ Some r → o ≡ Some p

@@ -97,7 +97,8 @@ module _ (s : Sizes) (os xs : List ℕ) (size : length os ≡ s .operations) (lo
       let f = header s ++ (os ++ tail) in
       let ops : take (s .operations) (drop 16 f) ≡ os = take-at os tail (s .operations) size in
       let rest : drop (16 + s .operations) f ≡ tail = sym (drop-drop (s .operations) 16 f) ∙ drop-at os tail (s .operations) size in
-      let nums : numbers (s .operations) (drop (16 + s .operations) f) ≡ xs = ap (numbers (s .operations)) rest ∙ ap (λ k. numbers k tail) (sym long) ∙ numbers-joined xs fits in
+      let nums : numbers (s .operations) (drop (16 + s .operations) f) ≡ xs =
+      ap (numbers (s .operations)) rest ∙ ap (λ k. numbers k tail) (sym long) ∙ numbers-joined xs fits in
       load-done s f os′ xs′ _ _ (sym sizes-in-file) length-file (grind (arith, tells)) (ap (λ t. t ++ drop (s .operations) os′) (sym ops)) (ap (λ t. t ++ drop (s .operations) xs′) (sym nums))
 
 -- So does a load of what a store left at the front of its buffer.
@@ -108,7 +109,9 @@ stored→reloads s os xs before after good fits e os′ xs′ a b =
     let limits = and-parts (limits-ok s) _ good .0 in
     let size : length (take n os) ≡ n = length-take-le n os (grind (arith, tells)) in
     let long : length (take n xs) ≡ n = length-take-le n xs (grind (arith, tells)) in
-    let front : take (file-length s) after ≡ file (code-of s os xs) = ap (take (file-length s)) e ∙ take-at (file (code-of s os xs)) (drop (file-length s) before) (file-length s) (length-file s (take n os) (take n xs) size long limits (take-fits n xs fits)) in
+    let front : take (file-length s) after ≡ file (code-of s os xs) =
+    ap (take (file-length s)) e
+    ∙ take-at (file (code-of s os xs)) (drop (file-length s) before) (file-length s) (length-file s (take n os) (take n xs) size long limits (take-fits n xs fits)) in
     ap (λ t. load t os′ xs′) front ∙ file→loaded s (take n os) (take n xs) size long limits (take-fits n xs fits) os′ xs′ a b
 
 -- The file of a loaded code has the bytes that were loaded.
@@ -116,7 +119,8 @@ module _ (bs : List ℕ) (fits : (i : ℕ) → getD bs i 0 < 256) where
   part : (k m : ℕ) → m + k ≤ length bs → bytes-of k (number-of (take k (drop m bs))) ≡ take k (drop m bs)
   part k m l =
       let size : length (take k (drop m bs)) ≡ k = length-take-le k (drop m bs) (simp length-drop (omega arith)) in
-      ap (λ j. bytes-of j (number-of (take k (drop m bs)))) (sym size) ∙ bytes-of-number-of (take k (drop m bs)) (take-fits k (drop m bs) (drop-fits m bs fits))
+      ap (λ j. bytes-of j (number-of (take k (drop m bs)))) (sym size)
+      ∙ bytes-of-number-of (take k (drop m bs)) (take-fits k (drop m bs) (drop-fits m bs fits))
 
   split : (k m : ℕ) → take k (drop m bs) ++ drop (m + k) bs ≡ drop m bs
   split k m = ap (λ t. take k (drop m bs) ++ t) (sym (drop-drop k m bs)) ∙ take-append-drop k (drop m bs)
@@ -134,7 +138,12 @@ module _ (bs : List ℕ) (fits : (i : ℕ) → getD bs i 0 < 256) where
       → Restores s os′ xs′ bs
   loaded→file s os xs os′ xs′ e size f g =
       let n = s .operations in
-      let ops : take n os′ ≡ take n (drop 16 bs) = ap (take n) f ∙ take-at (take n (drop 16 bs)) (drop n os) n (length-take-le n (drop 16 bs) (simp length-drop (omega arith))) in
-      let nums : take n xs′ ≡ numbers n (drop (16 + n) bs) = ap (take n) g ∙ take-at (numbers n (drop (16 + n) bs)) (drop n xs) n (length-numbers n (drop (16 + n) bs)) in
-      let tail : joined (bytes-of 8) (take n xs′) ≡ drop (16 + n) bs = ap (joined (bytes-of 8)) nums ∙ joined-numbers n (drop (16 + n) bs) (simp length-drop (omega arith)) (drop-fits (16 + n) bs fits) in
-      ap₂ (λ a b. header s ++ (a ++ b)) ops tail ∙ ap (λ t. header s ++ t) (split n 16) ∙ ap (λ s. header s ++ drop 16 bs) e ∙ header-bytes (omega arith)
+      let ops : take n os′ ≡ take n (drop 16 bs) =
+      ap (take n) f ∙ take-at (take n (drop 16 bs)) (drop n os) n (length-take-le n (drop 16 bs) (simp length-drop (omega arith))) in
+      let nums : take n xs′ ≡ numbers n (drop (16 + n) bs) =
+      ap (take n) g ∙ take-at (numbers n (drop (16 + n) bs)) (drop n xs) n (length-numbers n (drop (16 + n) bs)) in
+      let tail : joined (bytes-of 8) (take n xs′) ≡ drop (16 + n) bs =
+      ap (joined (bytes-of 8)) nums
+      ∙ joined-numbers n (drop (16 + n) bs) (simp length-drop (omega arith)) (drop-fits (16 + n) bs fits) in
+      ap₂ (λ a b. header s ++ (a ++ b)) ops tail ∙ ap (λ t. header s ++ t) (split n 16) ∙ ap (λ s. header s ++ drop 16 bs) e
+      ∙ header-bytes (omega arith)

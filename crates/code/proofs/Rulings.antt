@@ -46,7 +46,8 @@ pub record Keeps-rules (s : Sizes) (os : List ℕ) (i x d e : ℕ) (o : Operatio
   pub after : e ≡ depth-after o d
 
 module _ (s : Sizes) (os : List ℕ) (i x d : ℕ) where
-  pub goes-on→keeps-rules : (e : ℕ) (p : Option Operation) → ruling s os i x d p ≡ goes-on e → (o : Operation) × (p ≡ Some o) × Keeps-rules s os i x d e o
+  pub goes-on→keeps-rules : (e : ℕ) (p : Option Operation) → ruling s os i x d p ≡ goes-on e
+      → (o : Operation) × (p ≡ Some o) × Keeps-rules s os i x d e o
   goes-on→keeps-rules e None h = let z : _≡_ {A = ℕ} 0 1 = cc in absurd (omega arith)
   goes-on→keeps-rules e (Some o) h =
       let a = test-passed (operand-ok s (operand o) x) _ 23 e h in
@@ -58,7 +59,8 @@ module _ (s : Sizes) (os : List ℕ) (i x d : ℕ) where
       (o, refl, record { operand-rule = a .0; depth-rule = b .0; place-rule = c .0; last-rule = f .0; after = same })
 
   -- An operation that keeps each rule goes on.
-  pub keeps-rules→goes-on : (o : Operation) → operand-ok s (operand o) x ≡ true → depth-ok s o d ≡ true → place-ok os i (role o) x ≡ true → last-ok os i (role o) ≡ true → (p : Option Operation) → p ≡ Some o → ruling s os i x d p ≡ goes-on (depth-after o d)
+  pub keeps-rules→goes-on : (o : Operation) → operand-ok s (operand o) x ≡ true → depth-ok s o d ≡ true → place-ok os i (role o) x ≡ true
+      → last-ok os i (role o) ≡ true → (p : Option Operation) → p ≡ Some o → ruling s os i x d p ≡ goes-on (depth-after o d)
   keeps-rules→goes-on o a b f g p e = ap (ruling s os i x d) e ∙ rw (a, b, f, g)
 
 -- 23: the operand names what is there.
@@ -155,7 +157,8 @@ unfolding operation-at operation
 leading-jumps→jump [] j l = absurd (omega arith)
 leading-jumps→jump (b ∷ bs) j l = first (eqb b 22) refl j l (leading-jumps→jump bs)
   where
-    first : (t : Bool) → eqb b 22 ≡ t → (j : ℕ) → j < cond t (1 + leading-jumps bs) 0 → ((j : ℕ) → j < leading-jumps bs → operation-at bs j ≡ Some Jump) → operation-at (b ∷ bs) j ≡ Some Jump
+    first : (t : Bool) → eqb b 22 ≡ t → (j : ℕ) → j < cond t (1 + leading-jumps bs) 0
+        → ((j : ℕ) → j < leading-jumps bs → operation-at bs j ≡ Some Jump) → operation-at (b ∷ bs) j ≡ Some Jump
     first true e zero l rest = ap operation (eqb-true b 22 e)
     first true e (suc j) l rest = rest j (omega arith)
     first false e j l rest = absurd (omega arith)
@@ -215,7 +218,8 @@ module _ (os : List ℕ) (i x : ℕ) (inside : i < length os) where
   leads→place-ok Branch o h = opened Branch _ o (lands→may-land os i x (h .0))
   leads→place-ok Switch o h = opened Switch _ o (and-from (ltb i x) _ (lt-ltb i x (h .0)) (ap (λ p. is-jump-table (mapped role p)) (h .1)))
   leads→place-ok JumpTable o h =
-      let row : (j : ℕ) → j < x → operation-at (drop (i + 1) os) j ≡ Some Jump = λ j l. operation-at-drop (i + 1) os j ∙ ap (λ n. operation-at os (n + j)) (add-one i) ∙ h .0 .row j l in
+      let row : (j : ℕ) → j < x → operation-at (drop (i + 1) os) j ≡ Some Jump =
+      λ j l. operation-at-drop (i + 1) os j ∙ ap (λ n. operation-at os (n + j)) (add-one i) ∙ h .0 .row j l in
       opened JumpTable _ o (and-from (closed (role-at os (i - 1))) _ (cut-off→closed os i (h .0 .cut-off)) (le-leb x _ (jumps→leading-jumps (drop (i + 1) os) x row)))
   leads→place-ok Straight o h = opened Straight true o refl
 

@@ -52,7 +52,8 @@ loaded-operations n bs part before after e size f g =
 pub load-short : (bs os xs : List ℕ) → length bs < 16 → load bs os xs ≡ record { answer = refuses 27; operations = os; operands = xs }
 load-short bs os xs l = rw (ne-eqb (length bs) (file-length (sizes-in bs)) (λ e. omega arith))
 
-pub load-done : (s : Sizes) (bs os xs os′ xs′ : List ℕ) → s ≡ sizes-in bs → length bs ≡ file-length s → lent-ok s (length os) (length xs) ≡ true
+pub load-done : (s : Sizes) (bs os xs os′ xs′ : List ℕ) → s ≡ sizes-in bs → length bs ≡ file-length s
+    → lent-ok s (length os) (length xs) ≡ true
     → os′ ≡ take (s .operations) (drop 16 bs) ++ drop (s .operations) os → xs′ ≡ numbers (s .operations) (drop (16 + s .operations) bs) ++ drop (s .operations) xs
     → load bs os xs ≡ record { answer = gives s; operations = os′; operands = xs′ }
 load-done s bs os xs os′ xs′ e size good f g =

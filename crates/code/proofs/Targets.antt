@@ -50,7 +50,8 @@ module _ (c : Code) (w : Well-formed c) where
       subst (λ (p : Operation). Sound-at c i p) same (s .1)
 
   -- Where no figures are due before an operation, there are none.
-  reaches : (i x : ℕ) (o : Operation) → operation-at (c .operations) x ≡ Some o → empty-before (role o) ≡ true → (i < x) ⊎ (operation-at (c .operations) x ≡ Some Mark) → Reaches c i x
+  reaches : (i x : ℕ) (o : Operation) → operation-at (c .operations) x ≡ Some o → empty-before (role o) ≡ true
+      → (i < x) ⊎ (operation-at (c .operations) x ≡ Some Mark) → Reaches c i x
   reaches i x o e b on =
       let long = w .operations-long in
       let inside = stands→inside (c .operations) x o e in
@@ -61,7 +62,8 @@ module _ (c : Code) (w : Well-formed c) where
   lands→reaches i x (on-later-here l e) = reaches i x Here e refl (inl l)
   lands→reaches i x (on-later-halt l e) = reaches i x Halt e refl (inl l)
 
-  pub row→reaches : (i : ℕ) → operation-at (c .operations) i ≡ Some Rows → (j : ℕ) → j < getD (c .operands) i 0 → Reaches c (suc i + j) (getD (c .operands) (suc i + j) 0)
+  pub row→reaches : (i : ℕ) → operation-at (c .operations) i ≡ Some Rows → (j : ℕ) → j < getD (c .operands) i 0
+      → Reaches c (suc i + j) (getD (c .operands) (suc i + j) 0)
   row→reaches i e j l =
       let row = stands→sound i Rows e .leads .0 .row j l in
       lands→reaches (suc i + j) _ (stands→sound (suc i + j) Jump row .leads)

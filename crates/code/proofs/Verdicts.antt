@@ -22,11 +22,13 @@ ruling-at c i d = ruling (c .sizes) (c .operations) i (getD (c .operands) i 0) d
 
 module _ (c : Code) (i d : ℕ) where
   -- An operation that keeps the rules hands the check on to the next.
-  pub check-more : (e : ℕ) → i < length (c .operations) → goes-on e ≡ ruling-at c i d → check-from c (drop i (c .operations)) i d ≡ check-from c (drop (i + 1) (c .operations)) (i + 1) e
+  pub check-more : (e : ℕ) → i < length (c .operations) → goes-on e ≡ ruling-at c i d
+      → check-from c (drop i (c .operations)) i d ≡ check-from c (drop (i + 1) (c .operations)) (i + 1) e
   check-more e l r = at-drop-more (λ os. check-from c os i d) (c .operations) i 0 l ∙ rw (← r, check-from)
 
   -- One that breaks a rule decides.
-  pub check-stop : (k : ℕ) → i < length (c .operations) → breaks k ≡ ruling-at c i d → check-from c (drop i (c .operations)) i d ≡ refused k (Some i)
+  pub check-stop : (k : ℕ) → i < length (c .operations) → breaks k ≡ ruling-at c i d
+      → check-from c (drop i (c .operations)) i d ≡ refused k (Some i)
   check-stop k l r = at-drop-more (λ os. check-from c os i d) (c .operations) i 0 l ∙ rw (← r, check-from)
 
   -- Past the last operation nothing is left to break.
@@ -56,5 +58,6 @@ module _ (s : Sizes) (os xs : List ℕ) {bytes numbers : List ℕ} (front : byte
   pub cut-code : _≡_ {A = Code} (record { sizes = s; operations = bytes; operands = numbers }) (code-of s os xs)
   cut-code = cc
 
-  pub check-cut : lent-ok s (length os) (length xs) ≡ true → check-from (record { sizes = s; operations = bytes; operands = numbers }) bytes 0 0 ≡ check (code-of s os xs)
+  pub check-cut : lent-ok s (length os) (length xs) ≡ true
+      → check-from (record { sizes = s; operations = bytes; operands = numbers }) bytes 0 0 ≡ check (code-of s os xs)
   check-cut good = ap (λ (c : Code). check-from c (c .operations) 0 0) cut-code ∙ sym (check-good-sizes (code-of s os xs) (sizes-ok-cut s os xs ∙ good))
