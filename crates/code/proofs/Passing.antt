@@ -1,16 +1,14 @@
 -- The check passes just the code that is well formed: place by place, at the depth counted in code order.
 use mathlib.Core.Path.{_≡_, refl, sym, ap, subst, _∙_}
-use mathlib.Core.Bool.{Bool, true, false, cond, _&&_}
-use mathlib.Core.List.{List, [], _∷_}
+use mathlib.Core.Bool.{Bool, true, false}
+use mathlib.Core.List.{List}
 use mathlib.Core.Logic.{_⊎_, inl, inr, ⊎-elim}
-use Prim.Native.Nat.{ℕ, zero, suc, _+_, _-_, _<_, _≤_}
+use Prim.Native.Nat.{ℕ, zero, suc, _+_, _<_, _≤_}
 use native.Mathlib.Numerals.{add-one}
 use native.Mathlib.Omega.{arith}
 use lib.ListN.{length, getD, drop}
-use lib.Dec.{leb, ltb, eqb}
 use Rattle.std.proofs.shelf.Tests.{and-parts}
 use Rattle.std.proofs.shelf.Ways.{tells}
-use Rattle.std.specs.Options.{mapped}
 use Rattle.std.specs.Orderings.{Decides}
 use Rattle.std.specs.Results.{isOk}
 use Rattle.std.specs.declared.result.Result.{Result}
@@ -23,11 +21,11 @@ use Rattle.code.specs.declared.operations.Operation.{Operation}
 use Rattle.code.specs.declared.operations.Operation.the-variants.{Halt, Mark}
 use Rattle.code.specs.declared.operations.Role.{Role}
 use Rattle.code.specs.declared.operations.Role.the-variants.{End, Step, Label, Goto, Branch, Switch, JumpTable, Straight}
-use Rattle.code.specs.Operations.{operation, operand, role, taken, left}
-use Rattle.code.specs.Codes.{Code, operation-at, role-at}
-use Rattle.code.specs.Check.{Ruling, goes-on, breaks, Verdict, passes, refused, ruling, check, check-from, sizes-ok, opens, depth-after, operand-ok, depth-ok, place-ok, target-ok, last-ok}
+use Rattle.code.specs.Operations.{operation, operand, role, left}
+use Rattle.code.specs.Codes.{Code, operation-at}
+use Rattle.code.specs.Check.{Ruling, goes-on, breaks, passes, refused, check, check-from, sizes-ok, opens, depth-after, target-ok}
 use Rattle.code.specs.WellFormed.{depth-at, depth-past, Sound-at, Well-formed}
-use Rattle.code.proofs.Places.{operation-at-inside, role-at→operation-at, role→operation, sole}
+use Rattle.code.proofs.Places.{operation-at-inside, role→operation, sole}
 use Rattle.code.proofs.Rulings.{Keeps-rules, keeps-rules→goes-on, Keeps-depth, goes-on→keeps-rules, operand-ok→names, names→operand-ok, depth-ok→keeps-depth, keeps-depth→depth-ok, target-ok→leads, leads→place-ok, leads→last-ok}
 use Rattle.code.proofs.Verdicts.{ruling-at, check-more, check-stop, check-done, check-bad-sizes, check-good-sizes}
 

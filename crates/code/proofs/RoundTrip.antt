@@ -1,21 +1,20 @@
 -- A load undoes a store, and a store undoes a load.
-use mathlib.Core.Path.{_≡_, refl, sym, ap, ap₂, subst, _∙_}
-use mathlib.Core.Bool.{Bool, true, false, cond, _&&_}
+use mathlib.Core.Path.{_≡_, refl, sym, ap, ap₂, _∙_}
+use mathlib.Core.Bool.{true}
 use mathlib.Core.List.{List, [], _∷_, _++_}
-use Prim.Native.Nat.{ℕ, zero, suc, _+_, _-_, _*_, _/_, _%_, _^_, _<_, _≤_}
+use Prim.Native.Nat.{ℕ, zero, suc, _+_, _*_, _/_, _%_, _^_, _<_, _≤_}
 use native.Mathlib.Nat.{pow-suc}
 use native.Mathlib.Omega.{arith}
-use lib.Dec.{leb, eqb}
 use lib.ListN.{length, getD, take, drop}
 use Rattle.std.proofs.shelf.Bits.{div-below}
-use Rattle.std.proofs.shelf.Lists.{append-assoc, take-append-drop, length-append, length-take, length-take-le, length-drop, take-at, drop-at, drop-drop, getD-drop, getD-take, getD-past, nil-from-length}
+use Rattle.std.proofs.shelf.Lists.{append-assoc, take-append-drop, length-append, length-take-le, length-drop, take-at, drop-at, drop-drop, getD-drop, nil-from-length}
 use Rattle.std.proofs.shelf.Tests.{and-parts}
 use Rattle.std.proofs.shelf.Ways.{tells}
 use Rattle.std.specs.shelf.Lists.{joined}
 use Rattle.code.specs.declared.sizes.Sizes.{Sizes}
-use Rattle.code.specs.Codes.{Code, code-of}
+use Rattle.code.specs.Codes.{code-of}
 use Rattle.code.specs.Check.{lent-ok, limits-ok}
-use Rattle.code.specs.Files.{bytes-of, number-of, header, file, file-length, sizes-in, numbers, gives, refuses, Stored, store, Loaded, load, loaded, Reloads, Restores}
+use Rattle.code.specs.Files.{bytes-of, number-of, header, file, file-length, sizes-in, numbers, gives, store, load, loaded, Reloads, Restores}
 use Rattle.code.proofs.Bytes.{length-bytes-of, length-numbers}
 use Rattle.code.proofs.Storing.{load-done}
 

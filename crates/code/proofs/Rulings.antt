@@ -2,29 +2,28 @@
 use mathlib.Core.Path.{_≡_, refl, sym, ap, _∙_}
 use mathlib.Core.Bool.{Bool, true, false, cond, _&&_}
 use mathlib.Core.List.{List, [], _∷_}
-use mathlib.Core.Logic.{_⊎_, inl, inr}
 use Prim.Native.Nat.{ℕ, zero, suc, _+_, _-_, _<_, _≤_}
 use native.Mathlib.Numerals.{add-one}
 use native.Mathlib.Omega.{arith}
-use lib.ListN.{length, getD, drop}
-use lib.Dec.{leb, ltb, eqb}
+use lib.ListN.{length, drop}
+use lib.Dec.{ltb, eqb}
 use Rattle.std.proofs.shelf.Tests.{and-parts, and-from, eq-eqb, eqb-true, ltb-true, lt-ltb, leb-true, le-leb}
 use Rattle.std.proofs.shelf.Ways.{tells}
 use Rattle.std.specs.Options.{mapped}
 use Rattle.std.specs.declared.option.Option.{Option}
 use Rattle.std.specs.declared.option.Option.the-variants.{Some, None}
 use Rattle.code.specs.declared.operations.Operation.{Operation}
-use Rattle.code.specs.declared.operations.Operation.the-variants.{Halt, Mark, Const, Load, Store, Get, Put, Test, Round, Truth, Add, Sub, Mul, Div, Neg, Less, Same, More, Not, And, Or, Eqv, Jump, False, Table, Rows, Here, Take, TakeW, Post}
+use Rattle.code.specs.declared.operations.Operation.the-variants.{Halt, Mark, Jump, Rows, Here}
 use Rattle.code.specs.declared.operations.Operand.{Operand}
 use Rattle.code.specs.declared.operations.Operand.the-variants.{Unused, TextPlace, Constant, Cell, CellRange, Target, RowCount}
 use Rattle.code.specs.declared.operations.Role.{Role}
 use Rattle.code.specs.declared.operations.Role.the-variants.{End, Step, Label, Goto, Branch, Switch, JumpTable, Straight}
 use Rattle.code.specs.declared.sizes.Sizes.{Sizes}
-use Rattle.code.specs.Operations.{operation, number, operand, role, taken, left}
-use Rattle.code.specs.Codes.{Code, operation-at, role-at}
-use Rattle.code.specs.Check.{Ruling, goes-on, breaks, ruling, operand-ok, depth-ok, depth-after, empty-before, empty-after, place-ok, target-ok, last-ok, may-land, is-jump-table, closed, closes, opens, leading-jumps}
+use Rattle.code.specs.Operations.{operation, operand, role, taken}
+use Rattle.code.specs.Codes.{operation-at, role-at}
+use Rattle.code.specs.Check.{Ruling, goes-on, breaks, ruling, operand-ok, depth-ok, depth-after, empty-before, empty-after, place-ok, last-ok, may-land, is-jump-table, closed, closes, opens, leading-jumps}
 use Rattle.code.proofs.Places.{operation-at-drop, operation→number, role-at→operation-at}
-use Rattle.code.specs.WellFormed.{Names, Names-cells, Lands, on-mark, on-later-here, on-later-halt, Cut-off, behind-halt, behind-jump, Has-rows, Leads}
+use Rattle.code.specs.WellFormed.{Names, Lands, on-mark, on-later-here, on-later-halt, Cut-off, behind-halt, behind-jump, Has-rows, Leads}
 
 clash : {A : Type 0} → false ≡ true → A
 clash e = let z : _≡_ {A = ℕ} 0 1 = cc in absurd (omega arith)

@@ -1,18 +1,17 @@
 -- What the buffer holds after a store, and the arrays after a load.
-use mathlib.Core.Path.{_≡_, refl, sym, ap, ap₂, subst, _∙_}
-use mathlib.Core.Bool.{Bool, true, false, cond, _&&_}
-use mathlib.Core.List.{List, [], _∷_, _++_}
-use Prim.Native.Nat.{ℕ, zero, suc, _+_, _-_, _*_, _<_, _≤_}
+use mathlib.Core.Path.{_≡_, sym, ap, ap₂, _∙_}
+use mathlib.Core.Bool.{true}
+use mathlib.Core.List.{List, _++_}
+use Prim.Native.Nat.{ℕ, _+_, _*_, _<_, _≤_}
 use native.Mathlib.Omega.{arith}
-use lib.Dec.{leb, eqb}
-use lib.ListN.{length, getD, take, drop}
+use lib.ListN.{length, take, drop}
 use Rattle.std.proofs.shelf.Lists.{append-assoc, take-append-drop}
 use Rattle.std.proofs.shelf.Tests.{eq-eqb, le-leb, ne-eqb}
 use Rattle.std.specs.shelf.Lists.{joined}
 use Rattle.code.specs.declared.sizes.Sizes.{Sizes}
-use Rattle.code.specs.Codes.{Code, code-of}
+use Rattle.code.specs.Codes.{code-of}
 use Rattle.code.specs.Check.{lent-ok}
-use Rattle.code.specs.Files.{bytes-of, header, file, file-length, sizes-in, numbers, gives, refuses, Stored, store, Loaded, load, loaded}
+use Rattle.code.specs.Files.{bytes-of, header, file, file-length, sizes-in, numbers, gives, refuses, store, load, loaded}
 use Rattle.code.proofs.Bytes.{drop-beyond}
 
 -- A list by its front and its rest.

@@ -1,14 +1,14 @@
 -- What a machine that runs well-formed code leans on: the operation at a place is sound, and jumps reach places where the
 -- stack is empty.
-use mathlib.Core.Path.{_≡_, refl, sym, ap, subst, _∙_}
-use mathlib.Core.Bool.{true, false}
+use mathlib.Core.Path.{_≡_, refl, subst}
+use mathlib.Core.Bool.{true}
 use mathlib.Core.List.{List}
 use mathlib.Core.Logic.{_⊎_, inl, inr, ⊎-elim}
 use Prim.Native.Nat.{ℕ, suc, _+_, _<_, _≤_}
 use native.Mathlib.Omega.{arith}
 use lib.ListN.{length, getD}
 use Rattle.std.proofs.shelf.Tests.{cases-lt}
-use Rattle.std.specs.declared.option.Option.the-variants.{Some, None}
+use Rattle.std.specs.declared.option.Option.the-variants.{Some}
 use Rattle.code.specs.declared.checked.Checked.{Checked}
 use Rattle.code.specs.declared.operations.Operation.{Operation}
 use Rattle.code.specs.declared.operations.Operation.the-variants.{Halt, Mark, Jump, Rows, Here}
@@ -16,7 +16,7 @@ use Rattle.code.specs.Operations.{role}
 use Rattle.code.specs.Check.{check, passed, passes, refused, Verdict, empty-before}
 use Rattle.code.specs.CheckedCode.{code-in}
 use Rattle.code.specs.Codes.{Code, operation-at}
-use Rattle.code.specs.WellFormed.{Lands, on-mark, on-later-here, on-later-halt, Sound-at, Well-formed, Reaches, depth-at}
+use Rattle.code.specs.WellFormed.{Lands, on-mark, on-later-here, on-later-halt, Sound-at, Well-formed, Reaches}
 use Rattle.code.proofs.Passing.{passes→well-formed}
 use Rattle.code.proofs.Places.{operation-at-past}
 

@@ -1,20 +1,18 @@
 -- The verdict on a code, step by step: what the check of the operations from a place on comes to.
-use mathlib.Core.Path.{_≡_, refl, sym, ap, ap₂, _∙_}
-use mathlib.Core.Bool.{Bool, true, false, cond, _&&_}
-use mathlib.Core.List.{List, [], _∷_}
-use Prim.Native.Nat.{ℕ, _+_, _<_, _≤_, min}
+use mathlib.Core.Path.{_≡_, sym, ap, ap₂, _∙_}
+use mathlib.Core.Bool.{true, false, _&&_}
+use mathlib.Core.List.{List}
+use Prim.Native.Nat.{ℕ, _+_, _<_, _≤_}
 use native.Mathlib.Omega.{arith}
 use lib.ListN.{length, getD, drop, take}
-use lib.Dec.{leb, ltb, eqb}
+use lib.Dec.{leb, eqb}
 use Rattle.std.proofs.shelf.Ways.{tells}
 use Rattle.std.proofs.shelf.Lists.{at-drop-more, at-drop-all, length-take}
-use Rattle.std.specs.declared.option.Option.{Option}
 use Rattle.std.specs.declared.option.Option.the-variants.{Some, None}
-use Rattle.code.specs.declared.operations.Operation.{Operation}
 use Rattle.code.specs.declared.sizes.Sizes.{Sizes}
 use Rattle.code.specs.Operations.{operation}
 use Rattle.code.specs.Codes.{Code, code-of}
-use Rattle.code.specs.Check.{Ruling, goes-on, breaks, Verdict, passes, refused, ruling, check, check-from, limits-ok, lent-ok, sizes-ok}
+use Rattle.code.specs.Check.{Ruling, goes-on, breaks, passes, refused, ruling, check, check-from, limits-ok, lent-ok, sizes-ok}
 
 -- What the check says of the operation at a place that finds d figures.
 abbrev pub ruling-at : Code → ℕ → ℕ → Ruling

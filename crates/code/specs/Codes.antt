@@ -5,7 +5,7 @@ use Prim.Native.Nat.{ℕ}
 use lib.ListN.{getD, take}
 use Rattle.std.specs.Options.{mapped}
 use Rattle.std.specs.declared.option.Option.{Option}
-use Rattle.std.specs.declared.option.Option.the-variants.{Some, None}
+use Rattle.std.specs.declared.option.Option.the-variants.{None}
 use Rattle.code.specs.declared.operations.Operation.{Operation}
 use Rattle.code.specs.declared.operations.Role.{Role}
 use Rattle.code.specs.declared.sizes.Sizes.{Sizes}

@@ -2,7 +2,7 @@
 -- A file is n, v, m and D in four bytes each, then a byte for each operation, then eight bytes for each operand;
 -- every number has its low byte first.
 use mathlib.Core.Path.{_≡_}
-use mathlib.Core.Bool.{Bool, cond}
+use mathlib.Core.Bool.{cond}
 use mathlib.Core.List.{List, [], _∷_, _++_}
 use Prim.Native.Nat.{ℕ, zero, suc, _+_, _*_, _/_, _%_, _≤_}
 use lib.ListN.{length, take, drop}

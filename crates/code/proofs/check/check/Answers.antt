@@ -1,9 +1,9 @@
-use mathlib.Core.Path.{_≡_, _∙_, sym, ap, refl}
+use mathlib.Core.Path.{_∙_, sym, ap, refl}
 use Rattle.std.proofs.shelf.Results.{err-from-errBy}
 use Rattle.std.specs.declared.result.Result.the-variants.{Ok, Err}
 use Rattle.code.specs.declared.refusals.Refusal.the-variants.{BadSizes}
 use Rattle.code.specs.Check.{check, passed}
-use Rattle.code.specs.Codes.{Code, code-of}
+use Rattle.code.specs.Codes.{code-of}
 use Rattle.code.proofs.Passing.{answer→well-formed}
 use Rattle.code.proofs.Verdicts.{check-bad-sizes, check-cut, cut-code, sizes-ok-cut}
 use Rattle.code.proofs.check.check.Needs as need

@@ -1,4 +1,4 @@
-use mathlib.Core.Path.{_≡_, _∙_, sym, ap}
+use mathlib.Core.Path.{_∙_, sym, ap}
 use Rattle.std.proofs.shelf.Results.{err-from-errBy}
 use Rattle.code.specs.Answers.{number}
 use Rattle.code.specs.Check.{refused}
