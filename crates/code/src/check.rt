@@ -1,15 +1,13 @@
 // The check of code, rule by rule.
 ghost use mathlib.Core.Path.{_≡_};
 ghost use Prim.Native.Nat.{ℕ, _+_, _<_, _≤_};
-ghost use Rattle.std.specs.Orderings.{Decides};
-ghost use Rattle.std.specs.Results.{Cases, isOk};
-ghost use Rattle.code.specs.WellFormed.{Well-formed};
+ghost use Rattle.std.specs.Results.{Cases};
 ghost use Rattle.std.specs.declared.option.Option.the-variants.{Some};
 ghost use Rattle.code.specs.Answers.{ruling-of, told-at, verdict-of};
 ghost use Rattle.code.specs.Operations.{operation};
 ghost use lib.ListN.{length};
-ghost use Rattle.code.specs.Check.{check as verdict, check-from, closed, closes, depth-ok, is-jump-table, leading-jumps, last-ok, lent-ok, may-land, opens, operand-ok, place-ok, ruling, target-ok};
-ghost use Rattle.code.specs.CheckedCode.{code-in};
+ghost use Rattle.code.specs.Check.{check-from, closed, closes, depth-ok, is-jump-table, leading-jumps, last-ok, lent-ok, may-land, opens, operand-ok, place-ok, ruling, target-ok};
+ghost use Rattle.code.specs.CheckedCode.{Checks};
 ghost use Rattle.code.specs.Codes.{code-of, role-at};
 use crate::checked::Checked;
 use crate::descriptor::Descriptor;
@@ -208,9 +206,7 @@ pub fn check<'a>(
     operations: &'a [u8],
     operands: &'a [u64],
 ) -> Result<(), Refusal>
-    ensures answer { λ r. ⌜ verdict-of r ≡ verdict (code-of sizes (now (operations .entry)) (now (operands .entry))) ⌝ }
-    ensures passes { λ r. ⌜ Decides (isOk r) (Well-formed (code-of sizes (now (operations .entry)) (now (operands .entry)))) ⌝ }
-    ensures after { λ r. ⌜ Cases r (λ _. code-in (now (place .exit)) ≡ code-of sizes (now (operations .entry)) (now (operands .entry))) (λ _. now (place .exit) ≡ now (place .entry)) ⌝ }
+    ensures { λ r. ⌜ Checks (code-of sizes (now (operations .entry)) (now (operands .entry))) (now (place .entry)) r (now (place .exit)) ⌝ }
 {
     if !are_lent_sizes_ok(sizes, operations.len(), operands.len()) {
         return Err(Refusal::BadSizes);
