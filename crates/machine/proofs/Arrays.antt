@@ -1,10 +1,11 @@
 -- The operand stack and the cells, as arrays of figures and as lists of values.
 use mathlib.Core.Path.{_≡_, refl, sym, ap, _∙_}
-use mathlib.Core.List.{List, [], _∷_, map, reverse}
+use mathlib.Core.List.{List, [], _∷_, _++_, map, reverse}
 use Prim.Native.Nat.{ℕ, zero, suc, _+_, _-_, _<_, _≤_}
 use native.Mathlib.Omega.{arith}
-use lib.ListN.{length, getD, set, take}
-use Rattle.std.proofs.shelf.Lists.{take-more, take-more-set, reverse-append, length-map, length-reverse, length-take}
+use native.Mathlib.Numerals.{add-one}
+use lib.ListN.{length, getD, set, take, drop, replicate}
+use Rattle.std.proofs.shelf.Lists.{append-nil, drop-all, take-more, take-more-set, reverse-append, length-map, length-reverse, length-take}
 use Rattle.std.specs.shelf.Maps.{nth}
 use Rattle.std.specs.declared.option.Option.the-variants.{Some}
 use Rattle.std.proofs.shelf.Tests.{lt-ltb}
@@ -41,3 +42,20 @@ stored-inside xs i v l = let t = lt-ltb i (length xs) l in rw t
 -- The figure on top, and the two on top, at the depth that holds them.
 pub top-at : {F V : Type 0} (means : F → V) (xs : List F) (d : ℕ) {v : V} {vs : List V} → 0 < d → operands means ((d - 1) + 1) xs ≡ v ∷ vs → operands means d xs ≡ v ∷ vs
 top-at means xs d l e = let q : d ≡ (d - 1) + 1 = omega arith in ap (λ k. operands means k xs) q ∙ e
+
+-- One more cell filled, and all of them.
+fill-suc : {X : Type 0} (n : ℕ) (x : X) (xs : List X) → n < length xs → set (replicate n x ++ drop n xs) n x ≡ replicate (suc n) x ++ drop (suc n) xs
+fill-suc zero x [] l = absurd (omega arith)
+fill-suc zero x (y ∷ xs) l = refl
+fill-suc (suc n) x [] l = absurd (omega arith)
+fill-suc (suc n) x (y ∷ xs) l = ap (λ ys. x ∷ ys) (fill-suc n x xs (omega arith))
+
+pub fill-more : {X : Type 0} (n : ℕ) (x : X) (xs ys : List X) → n < length xs → ys ≡ replicate n x ++ drop n xs → set ys n x ≡ replicate (n + 1) x ++ drop (n + 1) xs
+fill-more n x xs ys l e = ap (λ zs. set zs n x) e ∙ fill-suc n x xs l ∙ ap (λ k. replicate k x ++ drop k xs) (sym (add-one n))
+
+pub map-replicate : {X Y : Type 0} (f : X → Y) (n : ℕ) (x : X) → map f (replicate n x) ≡ replicate n (f x)
+map-replicate f zero x = refl
+map-replicate f (suc n) x = ap (λ ys. f x ∷ ys) (map-replicate f n x)
+
+pub fill-all : {X : Type 0} (n m : ℕ) (x : X) (xs ys : List X) → length xs ≤ n → n ≡ m → ys ≡ replicate n x ++ drop n xs → ys ≡ replicate m x
+fill-all n m x xs ys l q e = e ∙ ap (λ zs. replicate n x ++ zs) (drop-all n xs l) ∙ append-nil (replicate n x) ∙ ap (λ k. replicate k x) q

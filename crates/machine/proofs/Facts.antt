@@ -97,7 +97,7 @@ pub record Onward (c : Code) (i t l : ℕ) : Type 0 where
   pub next : suc i < length (c .operations)
 
 abbrev pub Facts : Code → ℕ → Instruction → ℕ → Type 0
-Facts c i Halt x = Unit {0}
+Facts c i Halt x = operation-at (c .operations) i ≡ Some op.Halt
 Facts c i Pass x = Onward c i 0 0
 Facts c i (Calculate f) x = Onward c i (calculation-takes f) 1 × calculation-operand f x
 Facts c i (Transfer f) x = Onward c i (transfer-takes f) (transfer-leaves f) × transfer-operand f x (c .sizes .cells)
@@ -113,7 +113,7 @@ module _ (c : Code) (i : ℕ) where
   onward o s l = record { enough = s .enough; after = depth-at-suc (c .operations) i o (s .stands); found = s .found; within = s .left; next = l }
 
   pub facts : (o : Operation) → Sound-at c i o → Facts c i (instruction o) (getD (c .operands) i 0)
-  facts op.Halt s = tt
+  facts op.Halt s = s .stands
   facts op.Mark s = onward op.Mark s (s .leads)
   facts op.Const s = (onward op.Const s (s .leads), let n = s .names in omega arith)
   facts op.Load s = (onward op.Load s (s .leads), s .names)

@@ -1,6 +1,9 @@
+pub mod Advancing
 pub mod Arrays
-pub mod Values
 pub mod Facts
+pub mod Laws
 pub mod Performing
+pub mod Soundness
+pub mod Standing
 pub mod Stepping
-pub mod Subscripts
+pub mod Values

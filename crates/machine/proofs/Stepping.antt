@@ -49,3 +49,16 @@ module _ {V : Type 0} (kind : Kind V) (c : Code) (s : State V) where
   fault-ends f m e p (suc k) l =
       ap (onward kind c s (performed kind c s) (λ t. run-to-end kind c k t)) e
       ∙ ap (λ q. onward kind c s q (λ t. run-to-end kind c k t) false) p
+
+  -- One operation of the step, by what it came to.
+  pub unrolled : (t : State V) (k : ℕ) → ends-at c (s .place) ≡ false → performed kind c s ≡ goes t → run-to-end kind c (suc k) s ≡ run-to-end kind c k t
+  unfolding run-to-end
+  unrolled t k e p =
+      ap (onward kind c s (performed kind c s) (λ t. run-to-end kind c k t)) e
+      ∙ ap (λ q. onward kind c s q (λ t. run-to-end kind c k t) false) p
+
+  pub stopped : (f : Fault) (m : Memory V) (k : ℕ) → ends-at c (s .place) ≡ false → performed kind c s ≡ faults f m → run-to-end kind c (suc k) s ≡ faults f m
+  unfolding run-to-end
+  stopped f m k e p =
+      ap (onward kind c s (performed kind c s) (λ t. run-to-end kind c k t)) e
+      ∙ ap (λ q. onward kind c s q (λ t. run-to-end kind c k t) false) p

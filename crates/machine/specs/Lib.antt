@@ -1,6 +1,10 @@
 pub mod Faults
+pub mod Fits
+pub mod Histories
 pub mod Instructions
 pub mod Machine
+pub mod Refusals
+pub mod RunViews
+pub mod Runs
 pub mod Steps
-pub mod Fits
 pub mod Views
