@@ -23,7 +23,7 @@ or-assoc true b c = refl
 or-assoc false b c = refl
 
 -- A disjunction that is false has two false parts.
-neither : (a b : Bool) → (a || b) ≡ false → (a ≡ false) × (b ≡ false)
+pub neither : (a b : Bool) → (a || b) ≡ false → (a ≡ false) × (b ≡ false)
 neither true b e = absurd (true-is-not-false e)
 neither false b e = (refl, e)
 

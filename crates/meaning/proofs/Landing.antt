@@ -8,23 +8,24 @@ use Rattle.std.specs.declared.option.Option.the-variants.{Some, None}
 use Rattle.std.specs.shelf.Text.{sameBytes}
 use Rattle.grammar.specs.Tree.{Row, one, more, Name, Exp, Element, Statement, labelled, conditional, repeated, assigned, go, switched, input, printed, stop, sequence, Item, comment, integer, boolean, array, switch, action, Program}
 use Rattle.symbols.specs.declared.refusal.NameRefusal.the-variants.{JumpIntoFor}
-use Rattle.symbols.specs.Occurrences.{Occurrence, as-target, as-variable, as-label, at, each, in-exp, in-element, in-statement, in-item, occurrences}
+use Rattle.symbols.specs.Occurrences.{Occurrence, as-target, as-selector, in-switch, at, each, in-exp, in-element, in-statement, in-item, occurrences}
 use Rattle.symbols.specs.Symbols.{symbols, kind-in}
-use Rattle.symbols.specs.Jumps.{open-labels, item-labels, outer-labels, is-among, is-label, leads-inside, jump-offences, item-jumps, wrong-jumps}
+use Rattle.symbols.specs.Jumps.{open-labels, item-labels, outer-labels, is-among, is-label, leads-inside, switch-leads, jump-offences, item-jumps, wrong-jumps}
 use Rattle.symbols.specs.Rules.{accepted, verdict}
 use Rattle.symbols.specs.Laws.{In, here, later}
 use Rattle.symbols.proofs.Lists.{in-left, in-right}
 use Rattle.symbols.proofs.Offences.{empty-left, empty-right, nothing-told, accepted→keeps-all}
 use Rattle.symbols.proofs.Names.{names-agree}
-use Rattle.symbols.proofs.Table.{same→}
+use Rattle.symbols.proofs.Table.{same→, name-said}
 use Rattle.figures.specs.Kinds.{Kind}
-use Rattle.meaning.specs.Names.{names-of}
+use Rattle.meaning.specs.Names.{labels-of, names-of}
 use Rattle.meaning.specs.Positions.{Loop, Continuation, nothing, rest, turn, Position, end, at-go, enter, find, find-in-text, destination, statement-of, followed-by, statements}
 use Rattle.meaning.specs.Machine.{State}
 use Rattle.meaning.specs.Runs.{Steps}
 use Rattle.meaning.specs.Laws.{has-label}
-use Rattle.meaning.specs.Landing.{Stands, label-here, past-label, past-if, past-for, in-front, at-back, Stands-in-text, Lands, Landing-law}
+use Rattle.meaning.specs.Landing.{Stands, label-here, past-label, past-if, past-for, in-front, at-back, Stands-in-text, Lands, Reached, Landing-law}
 use Rattle.meaning.proofs.Jumping.{true-is-not-false, among-both, find-misses}
+use Rattle.meaning.proofs.Switches.{in-cases, is-switch→, declares, label-named}
 use Rattle.meaning.proofs.Reaching.{Passes-on, For, After, at-nothing, at-rest, at-turn, At, Of-text, beginning-keeps, run-keeps}
 
 -- The statement that `find` comes to.
@@ -163,6 +164,21 @@ module _ (t : Program) where
         let inside = nothing-told (leads-inside (symbols t) (seen-by k) l) (l .place) (h .quiet) in
         destination-lands (l .letters) j (seen (is-label (kind-in (symbols t) (l .letters))) (is-among (seen-by k) (l .letters)) suits-label inside)
 
+    -- Every label of a switch that stands in the text is a label, by the switch's own declaration.
+    switch-lands : (p : ℕ) (x : Name) (e : Exp) (k : Continuation) → Part k (switched p x e) → After Part k
+        → (l : List ℕ) → In l (names-of t .labels (x .letters)) → Lands (statements t) l (destination (statements t) l k)
+    switch-lands p x e k h j l i =
+        let o = at as-selector x in
+        let stands = h .listed o here in
+        let s = is-switch→ (kind-in (symbols t) (x .letters)) (names-agree t ok .uses-suit o stands) in
+        let d = declares t (x .letters) (s .0) (sym (name-said t o stands .0) ∙ s .1) in
+        let n = label-named l (s .0) (subst (λ y. In l (labels-of y)) (s .1) i) in
+        let y = n .name in
+        let inside = nothing-told (switch-leads (leads-inside (symbols t) (seen-by k)) (kind-in (symbols t) (x .letters))) (x .place) (h .quiet) in
+        let quiet = n .not-said (leads-inside (symbols t) (seen-by k)) (ap (switch-leads (leads-inside (symbols t) (seen-by k))) (sym (s .1)) ∙ inside) in
+        let sees = seen (is-label (kind-in (symbols t) (y .letters))) (is-among (seen-by k) (y .letters)) (names-agree t ok .uses-suit (at in-switch y) (d (at in-switch y) (n .listed))) quiet in
+        destination-lands l j (subst (λ m. is-among (seen-by k) m ≡ true) (n .spelled) sees)
+
   -- The text is a part of itself.
   abbrev Quiet : Option Statement → Type 0
   Quiet None = Unit {0}
@@ -199,17 +215,12 @@ module _ (t : Program) where
   item-listed (switch x xs) = tt
   item-listed (action s) = λ o h. h
 
-  in-either : {A : Type 0} (x : A) (xs ys zs : List A) → (In x xs → In x zs) → (In x ys → In x zs) → In x (xs ++ ys) → In x zs
-  in-either x [] ys zs f g h = g h
-  in-either x (y ∷ xs) ys zs f g here = f here
-  in-either x (y ∷ xs) ys zs f g (later h) = in-either x xs ys zs (λ i. f (later i)) g h
-
   joined-listed : (os ps : List Occurrence) (a b : Option Statement) → Listed os a → Listed ps b → Listed (os ++ ps) (followed-by a b)
   joined-listed os ps None None h j = tt
   joined-listed os ps None (Some b) h j = λ o i. in-right o os ps (j o i)
   joined-listed os ps (Some a) None h j = λ o i. in-left o os ps (h o i)
   joined-listed os ps (Some a) (Some b) h j = λ o i.
-      in-either o (in-statement a) (in-statement b) (os ++ ps) (λ q. in-left o os ps (h o q)) (λ q. in-right o os ps (j o q)) i
+      in-cases o (in-statement a) (in-statement b) (In o (os ++ ps)) (λ q. in-left o os ps (h o q)) (λ q. in-right o os ps (j o q)) i
 
   listed-text : (is : Program) → Listed (occurrences is) (statements is)
   listed-text (one i) = item-listed i
@@ -219,9 +230,19 @@ module _ (t : Program) where
   whole-text None e q h = tt
   whole-text (Some s) e q h = record { quiet = q; listed = h; placed = λ l r i. subst (Stands-in-text l r) e i }
 
+module _ {V : Type 0} (kind : Kind V) (t : Program) (u : State V) (r : Reached kind t u) where
+  -- What stands at a position that is reached is a part of the text.
+  reached-parts : At (Part t) (u .position)
+  reached-parts =
+      let start = whole-text t (statements t) refl (quiet-text t t (accepted→keeps-all t (r .is-accepted) JumpIntoFor)) (listed-text t t) in
+      run-keeps (Part t) (part-parts t) kind (names-of t) (statements t) start (r .steps) (beginning-keeps (Part t) (part-parts t) (statements t) start)
+
 pub landing-law : {V : Type 0} (kind : Kind V) → Landing-law kind
-landing-law kind t ok cells roll room n u a p l k e =
-    let start = whole-text t (statements t) refl (quiet-text t t (accepted→keeps-all t ok JumpIntoFor)) (listed-text t t) in
-    let reached = run-keeps (Part t) (part-parts t) kind (names-of t) (statements t) start a (beginning-keeps (Part t) (part-parts t) (statements t) start) in
-    let here-now = subst (At (Part t)) e reached in
-    go-lands t ok p l k (here-now .0) (here-now .1)
+landing-law kind = record {
+  go-lands = λ t u r p l k e.
+      let h = subst (At (Part t)) e (reached-parts kind t u r) in
+      go-lands t (r .is-accepted) p l k (h .0) (h .1);
+  switch-lands = λ t u r p x e k q l i.
+      let h = subst (At (Part t)) q (reached-parts kind t u r) in
+      switch-lands t (r .is-accepted) p x e k (h .0) (h .1) l i;
+}

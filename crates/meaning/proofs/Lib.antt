@@ -3,4 +3,5 @@ pub mod Jumping
 pub mod Changing
 pub mod Reaching
 pub mod Keeping
+pub mod Switches
 pub mod Landing

@@ -79,6 +79,19 @@ pub record More-cases : Type 0 where
   -- a go to inside the body of a for stays in the turn
   pub goes-on-inside : comes-of whole (pos 0 ∷ pos 0 ∷ []) none 0 "for i := 1, 2; begin go to a; stop; a: x := x+i end"
       ≡ ran 6 (pos 2 ∷ pos 3 ∷ []) [] (over ended)
+  -- p, q, r, s, t
+  pub connectives : comes-of whole (pos 0 ∷ pos 0 ∷ pos 0 ∷ pos 0 ∷ pos 0 ∷ []) none 0
+      "boolean(p, q, r, s, t); p := 1; q := p and 0; r := q or p; s := not q eqv r; t := q eqv r"
+      ≡ ran 5 (pos 1 ∷ pos 0 ∷ pos 1 ∷ pos 1 ∷ pos 0 ∷ []) [] (over ended)
+  -- each relation between 1 and 1, and between 1 and 2
+  pub relations-of-equals : comes-of whole (pos 9 ∷ pos 9 ∷ pos 9 ∷ pos 9 ∷ pos 9 ∷ pos 9 ∷ []) none 0
+      "boolean(a, b, c, d, e, f); a := (1 < 1); b := (1 <= 1); c := (1 = 1); d := (1 /= 1); e := (1 >= 1); f := (1 > 1)"
+      ≡ ran 6 (pos 0 ∷ pos 1 ∷ pos 1 ∷ pos 0 ∷ pos 1 ∷ pos 0 ∷ []) [] (over ended)
+  pub relations-of-others : comes-of whole (pos 9 ∷ pos 9 ∷ pos 9 ∷ pos 9 ∷ pos 9 ∷ pos 9 ∷ []) none 0
+      "boolean(a, b, c, d, e, f); a := (1 < 2); b := (1 <= 2); c := (1 = 2); d := (1 /= 2); e := (1 >= 2); f := (1 > 2)"
+      ≡ ran 6 (pos 1 ∷ pos 1 ∷ pos 0 ∷ pos 1 ∷ pos 0 ∷ pos 0 ∷ []) [] (over ended)
+  -- * before -, and both from the left
+  pub ranks : comes-of whole (pos 0 ∷ []) none 0 "x := 20 - 2*3 - 8/2/2" ≡ ran 1 (pos 12 ∷ []) [] (over ended)
   -- both operands are worked out, also where the right one decides alone
   pub both-operands : comes-of whole (pos 0 ∷ []) none 0 "boolean(p); p := (1/0 > 1) and 0" ≡ ran 0 (pos 0 ∷ []) [] (fault-at 32 12)
   -- the subscript is tested before the right side is worked out

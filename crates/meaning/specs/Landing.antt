@@ -35,8 +35,18 @@ pub record Lands (text : Option Statement) (l : List ℕ) (p : Position) : Type 
   pub stands : Stands-in-text l statement text
   pub lands : p ≡ enter statement surroundings
 
--- Wherever a run of an accepted text comes to a go to, its label is found.
-abbrev pub Landing-law : {V : Type 0} → Kind V → Type 0
-Landing-law {V} kind = (t : Program) → verdict t ≡ accepted → (cells : List V) (roll : Contents V) (room n : ℕ) (u : State V)
-    → Steps kind (names-of t) (statements t) (initial (statements t) cells roll room) n u
-    → (p : ℕ) (l : Name) (k : Continuation) → u .position ≡ at-go p l k → Lands (statements t) (l .letters) (destination (statements t) (l .letters) k)
+-- The state u is reached by a run of the accepted text t.
+pub record Reached {V : Type 0} (kind : Kind V) (t : Program) (u : State V) : Type 0 where
+  pub is-accepted : verdict t ≡ accepted
+  pub cells : List V
+  pub roll : Contents V
+  pub book-length : ℕ
+  pub count : ℕ
+  pub steps : Steps kind (names-of t) (statements t) (initial (statements t) cells roll book-length) count u
+
+-- Wherever a run of an accepted text comes to a go to, its label is found, and so is every label of its switch.
+pub record Landing-law {V : Type 0} (kind : Kind V) : Type 0 where
+  pub go-lands : (t : Program) (u : State V) → Reached kind t u → (p : ℕ) (l : Name) (k : Continuation) → u .position ≡ at-go p l k
+      → Lands (statements t) (l .letters) (destination (statements t) (l .letters) k)
+  pub switch-lands : (t : Program) (u : State V) → Reached kind t u → (p : ℕ) (x : Name) (e : Exp) (k : Continuation) → u .position ≡ at-switch p x e k
+      → (l : List ℕ) → In l (names-of t .labels (x .letters)) → Lands (statements t) l (destination (statements t) l k)
