@@ -3,20 +3,19 @@
 use mathlib.Core.Path.{_≡_, refl, sym, _∙_, ap, subst}
 use mathlib.Core.Bool.{Bool, true, false, cond}
 use mathlib.Core.List.{List, [], _∷_, _++_, append-assoc, append-nil}
-use Prim.Native.Nat.{ℕ, zero, suc, _+_, _≤_, _<_}
+use Prim.Native.Nat.{ℕ, suc, _+_}
 use native.Mathlib.Omega.{arith}
 use borrow.Author.Tests.{ltb-true}
 use lib.Dec.{ltb}
 use lib.IntN.{ℤ, pos, negsuc, _-ℤ_}
 use lib.ListN.{length, length-append}
 use Rattle.std.specs.declared.option.Option.{Option}
-use Rattle.grammar.specs.Tree.{Name, Exp, Variable, whole, indexed, Element, progression, Statement}
+use Rattle.grammar.specs.Tree.{Name, Variable, whole, indexed, progression, Statement}
 use Rattle.figures.specs.Kinds.{Kind, Outcome, value, refused}
-use Rattle.rolls.specs.Contents.{Contents, How-it-ends, ends, damaged-at, Taken, took, refused as roll-refused, refused-at, at-ending, first-of, rest-of, first as first-figure}
-use Rattle.symbols.specs.declared.value_type.ValueType.{ValueType}
-use Rattle.meaning.specs.Names.{Names, Extent}
-use Rattle.meaning.specs.Expressions.{and-then, both, is-true, as-stored, at-distance, element-cell, cell-of, subscripted-cell}
-use Rattle.meaning.specs.Positions.{Loop, Continuation, Position, end, at-assignment, at-go, at-switch, at-if, at-input, at-print, at-stop, at-element, at-addition, at-test, turn, enter, leave, next-print, destination}
+use Rattle.rolls.specs.Contents.{How-it-ends, ends, damaged-at, Taken, took, refused as roll-refused, refused-at, first-of, rest-of, first as first-figure}
+use Rattle.meaning.specs.Names.{Names}
+use Rattle.meaning.specs.Expressions.{and-then, both, is-true, as-stored, at-distance, cell-of, subscripted-cell}
+use Rattle.meaning.specs.Positions.{Loop, Position, end, at-assignment, at-go, at-switch, at-if, at-input, at-print, at-stop, at-element, at-addition, at-test, turn, enter, leave, next-print, destination}
 use Rattle.meaning.specs.Machine.{Memory, State, Fault, Next, at-end, next, faults, state, on-to, with-cell, with-rest-of-roll, with-posted, worked-out, received, post-if, post, variable-place, variable-name, figure-of, target, store, assign, control-figure, assign-control, from, test-step, after-test, after-if, after-switch, step-at, step}
 use Rattle.meaning.specs.Runs.{Steps, no-step, and-step}
 use Rattle.meaning.specs.Laws.{Has-cell, the-first, an-element, Book-grows, Roll-shrinks, Book-law, Roll-law}
@@ -27,10 +26,10 @@ pub record Came {A B : Type 0} (f : A → Outcome B) (o : Outcome A) (b : B) : T
   pub was : o ≡ value from
   pub then : f from ≡ value b
 
-no-value : {A : Type 0} (n : ℕ) (a : A) → refused n ≡ value a → ⊥
+pub no-value : {A : Type 0} (n : ℕ) (a : A) → refused n ≡ value a → ⊥
 no-value n a e = let z : _≡_ {A = ℕ} 0 1 = cc in omega arith
 
-same-value : {A : Type 0} (a b : A) → value a ≡ value b → a ≡ b
+pub same-value : {A : Type 0} (a b : A) → value a ≡ value b → a ≡ b
 same-value a b e = cc
 
 came : {A B : Type 0} (f : A → Outcome B) (o : Outcome A) (b : B) → and-then f o ≡ value b → Came f o b
@@ -117,6 +116,10 @@ module _ {V : Type 0} (kind : Kind V) (names : Names) (text : Option Statement) 
   store-changes : (C : ℕ → Type 0) (m n : Memory V) (x : Name) (c : ℕ) (v : V) → C c → store kind names text m x c v ≡ value n → Change C m n
   store-changes C m n x c v h e = let s = store-sets m n x c v e in subst (Change C m) (s .1) (stored c (s .0) h)
 
+  take-changes : (C : ℕ → Type 0) (m n : Memory V) (x : Name) (c : ℕ) (v : V) → C c → first-figure (m .roll) ≡ took v
+      → store kind names text (with-rest-of-roll m) x c v ≡ value n → Change C m n
+  take-changes C m n x c v h f e = let s = store-sets (with-rest-of-roll m) n x c v e in subst (Change C m) (s .1) (taken c (s .0) v h f)
+
   post-changes : (C : ℕ → Type 0) (m n : Memory V) (v : V) (b : Bool) → post-if m v b ≡ value n → Change C m n
   post-changes C m n v true e = subst (Change C m) (same-value _ n e) (posted-one v)
   post-changes C m n v false e = absurd (no-value 35 n e)
@@ -157,9 +160,8 @@ module _ {V : Type 0} (kind : Kind V) (names : Names) (text : Option Statement) 
       let w = worked p (λ c. received p (put c) (first-figure (m .roll))) (target kind names text m v) t e in
       let r = figure-received p (put (w .result)) (first-figure (m .roll)) t (w .goes-on) in
       let u = worked p (on-to (leave k)) (store kind names text (with-rest-of-roll m) y (w .result) (r .figure)) t (r .goes-on) in
-      let s = store-sets (with-rest-of-roll m) (u .result) y (w .result) (r .figure) (u .was) in
       reached C m (u .result) (leave k) t (u .goes-on)
-      (subst (Change C m) (s .1) (taken (w .result) (s .0) (r .figure) (target-is-cell m v (w .result) (w .was)) (r .was)))
+      (take-changes C m (u .result) y (w .result) (r .figure) (target-is-cell m v (w .result) (w .was)) (r .was) (u .was))
   step-changes m (at-print p x es k) t e =
       let w = worked p (on-to (next-print p k es)) (and-then (post m) (figure-of kind names text m x)) t e in
       let n : Memory V = w .result in

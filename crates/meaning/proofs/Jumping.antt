@@ -7,12 +7,12 @@ use native.Mathlib.Omega.{arith}
 use Rattle.std.specs.declared.option.Option.{Option}
 use Rattle.std.specs.declared.option.Option.the-variants.{Some, None}
 use Rattle.std.specs.shelf.Text.{sameBytes}
-use Rattle.grammar.specs.Tree.{Name, Exp, Element, Statement, labelled, conditional, repeated, assigned, go, switched, input, printed, stop, sequence}
-use Rattle.figures.specs.Kinds.{Kind, Outcome, value}
+use Rattle.grammar.specs.Tree.{Name, Exp, Statement, labelled, conditional, repeated, assigned, go, switched, input, printed, stop, sequence}
+use Rattle.figures.specs.Kinds.{Kind, value}
 use Rattle.symbols.specs.Jumps.{open-labels, is-among}
 use Rattle.meaning.specs.Names.{Names}
-use Rattle.meaning.specs.Positions.{Loop, Continuation, nothing, rest, turn, Position, at-go, at-switch, enter, leave, find, destination, kth}
-use Rattle.meaning.specs.Machine.{Memory, State, Next, next, state, on-to, worked-out, figure-of, go-or-leave, after-switch, step}
+use Rattle.meaning.specs.Positions.{Continuation, rest, turn, Position, at-go, at-switch, enter, leave, find, destination, kth}
+use Rattle.meaning.specs.Machine.{Memory, next, state, on-to, worked-out, figure-of, go-or-leave, after-switch, step}
 use Rattle.meaning.specs.Laws.{has-label, Out-of, out, of-block, of-for, Switch-law, Jump-law}
 
 pub true-is-not-false : true ≡ false → ⊥

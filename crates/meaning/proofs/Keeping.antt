@@ -1,11 +1,11 @@
 -- A cell that no statement of the text names keeps its figure.
-use mathlib.Core.Path.{_≡_, refl, sym, _∙_, ap, subst}
+use mathlib.Core.Path.{_≡_, refl, _∙_, ap, subst}
 use mathlib.Core.List.{List, [], _∷_}
 use Prim.Native.Nat.{ℕ, zero, suc}
 use lib.ListN.{length, set, length-set}
 use Rattle.std.specs.declared.option.Option.{Option}
 use Rattle.std.specs.declared.option.Option.the-variants.{Some, None}
-use Rattle.grammar.specs.Tree.{Name, Statement}
+use Rattle.grammar.specs.Tree.{Statement}
 use Rattle.figures.specs.Kinds.{Kind}
 use Rattle.rolls.specs.Contents.{Contents}
 use Rattle.meaning.specs.Names.{Names}

@@ -1,16 +1,16 @@
 -- The go tos of an accepted text lead to the statements behind their labels.
 use mathlib.Core.Path.{_≡_, refl, sym, _∙_, ap, subst}
 use mathlib.Core.Bool.{Bool, true, false, cond, not, _&&_, _||_}
-use mathlib.Core.List.{List, [], _∷_, _++_, append-nil}
+use mathlib.Core.List.{List, [], _++_, append-nil}
 use Prim.Native.Nat.{ℕ}
 use Rattle.std.specs.declared.option.Option.{Option}
 use Rattle.std.specs.declared.option.Option.the-variants.{Some, None}
 use Rattle.std.specs.shelf.Text.{sameBytes}
-use Rattle.grammar.specs.Tree.{Row, one, more, Name, Exp, Element, Statement, labelled, conditional, repeated, assigned, go, switched, input, printed, stop, sequence, Item, comment, integer, boolean, array, switch, action, Program}
+use Rattle.grammar.specs.Tree.{one, more, Name, Exp, Element, Statement, labelled, conditional, repeated, assigned, go, switched, input, printed, stop, sequence, Item, comment, integer, boolean, array, switch, action, Program}
 use Rattle.symbols.specs.declared.refusal.NameRefusal.the-variants.{JumpIntoFor}
 use Rattle.symbols.specs.Occurrences.{Occurrence, as-target, as-selector, in-switch, at, each, in-exp, in-element, in-statement, in-item, occurrences}
 use Rattle.symbols.specs.Symbols.{symbols, kind-in}
-use Rattle.symbols.specs.Jumps.{open-labels, item-labels, outer-labels, is-among, is-label, leads-inside, switch-leads, jump-offences, item-jumps, wrong-jumps}
+use Rattle.symbols.specs.Jumps.{open-labels, item-labels, outer-labels, is-among, is-label, leads-inside, switch-leads, jump-offences, item-jumps}
 use Rattle.symbols.specs.Rules.{accepted, verdict}
 use Rattle.symbols.specs.Laws.{In, here, later}
 use Rattle.symbols.proofs.Lists.{in-left, in-right}
@@ -19,11 +19,10 @@ use Rattle.symbols.proofs.Names.{names-agree}
 use Rattle.symbols.proofs.Table.{same→, name-said}
 use Rattle.figures.specs.Kinds.{Kind}
 use Rattle.meaning.specs.Names.{labels-of, names-of}
-use Rattle.meaning.specs.Positions.{Loop, Continuation, nothing, rest, turn, Position, end, at-go, enter, find, find-in-text, destination, statement-of, followed-by, statements}
+use Rattle.meaning.specs.Positions.{Loop, Continuation, nothing, rest, turn, Position, end, enter, find, find-in-text, destination, statement-of, followed-by, statements}
 use Rattle.meaning.specs.Machine.{State}
-use Rattle.meaning.specs.Runs.{Steps}
 use Rattle.meaning.specs.Laws.{has-label}
-use Rattle.meaning.specs.Landing.{Stands, label-here, past-label, past-if, past-for, in-front, at-back, Stands-in-text, Lands, Reached, Landing-law}
+use Rattle.meaning.specs.Accepted.{Stands, label-here, past-label, past-if, past-for, in-front, at-back, Stands-in-text, Lands, Reached, Landing-law}
 use Rattle.meaning.proofs.Jumping.{true-is-not-false, among-both, find-misses}
 use Rattle.meaning.proofs.Switches.{in-cases, is-switch→, declares, label-named}
 use Rattle.meaning.proofs.Reaching.{Passes-on, For, After, at-nothing, at-rest, at-turn, At, Of-text, beginning-keeps, run-keeps}

@@ -5,3 +5,4 @@ pub mod Reaching
 pub mod Keeping
 pub mod Switches
 pub mod Landing
+pub mod Storing

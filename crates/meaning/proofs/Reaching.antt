@@ -1,14 +1,14 @@
 -- The positions that a run comes to hold statements of the text alone. S k s says something of a statement s before the
 -- continuation k; if it passes on to the parts of s, and holds of the text, it holds of all that a position holds.
-use mathlib.Core.Path.{_≡_, refl, sym, _∙_, ap, subst}
+use mathlib.Core.Path.{_≡_, subst}
 use mathlib.Core.Bool.{Bool, true, false, cond}
 use mathlib.Core.List.{List, [], _∷_}
 use Prim.Native.Nat.{ℕ}
 use Rattle.std.specs.declared.option.Option.{Option}
 use Rattle.std.specs.declared.option.Option.the-variants.{Some, None}
 use Rattle.std.specs.shelf.Text.{sameBytes}
-use Rattle.grammar.specs.Tree.{Row, Name, Exp, Variable, Element, single, progression, Statement, labelled, conditional, repeated, assigned, go, switched, input, printed, stop, sequence}
-use Rattle.figures.specs.Kinds.{Kind, Outcome, value, refused}
+use Rattle.grammar.specs.Tree.{Row, Name, Exp, Element, single, progression, Statement, labelled, conditional, repeated, assigned, go, switched, input, printed, stop, sequence}
+use Rattle.figures.specs.Kinds.{Kind}
 use Rattle.rolls.specs.Contents.{first as first-figure}
 use Rattle.meaning.specs.Names.{Names}
 use Rattle.meaning.specs.Expressions.{and-then, is-true}

@@ -1,14 +1,13 @@
 -- Runs: steps made one after the other against steps counted up to a limit.
 use mathlib.Core.Path.{_≡_, refl, sym, _∙_, ap}
-use mathlib.Core.List.{List}
-use Prim.Native.Nat.{ℕ, zero, suc, _+_, _-_, _≤_, _<_}
+use Prim.Native.Nat.{ℕ, zero, suc, _+_, _-_, _<_}
 use native.Mathlib.Omega.{arith}
 use Rattle.std.specs.declared.option.Option.{Option}
 use Rattle.grammar.specs.Tree.{Statement}
 use Rattle.figures.specs.Kinds.{Kind}
 use Rattle.meaning.specs.Names.{Names}
-use Rattle.meaning.specs.Machine.{State, Fault, Next, at-end, next, faults, step}
-use Rattle.meaning.specs.Runs.{Final, ended, faulted, comes-to, Status, over, Progress, Steps, no-step, and-step, Finishes, one-step-more, after-step, advance}
+use Rattle.meaning.specs.Machine.{State, Next, at-end, next, faults, step}
+use Rattle.meaning.specs.Runs.{Final, ended, faulted, comes-to, over, Progress, Steps, no-step, and-step, Finishes, after-step, advance}
 use Rattle.meaning.specs.Laws.{Determined, Faults-stay}
 
 -- Progress with n steps more.

@@ -1,17 +1,17 @@
 -- The labels of a switch: the table has them from the switch's declaration, where each of them stands.
 use mathlib.Core.Path.{_≡_, refl, sym, _∙_, ap, subst}
-use mathlib.Core.Bool.{Bool, true, false, cond, _||_}
+use mathlib.Core.Bool.{Bool, true, false, cond}
 use mathlib.Core.List.{List, [], _∷_, _++_}
 use Prim.Native.Nat.{ℕ}
 use native.Mathlib.Omega.{arith}
 use Rattle.std.specs.declared.option.Option.{Option}
 use Rattle.std.specs.declared.option.Option.the-variants.{Some, None}
 use Rattle.std.specs.shelf.Text.{sameBytes}
-use Rattle.grammar.specs.Tree.{Row, one, more, Name, Exp, literal, simple, subscripted, prefixed, joined, bracketed, compared, Variable, value-of, Element, single, progression, Statement, labelled, conditional, repeated, assigned, go, switched, input, printed, stop, sequence, Group, Item, comment, integer, boolean, array, switch, action, Program}
+use Rattle.grammar.specs.Tree.{Row, one, more, Name, Exp, literal, simple, subscripted, prefixed, joined, bracketed, compared, value-of, Element, single, progression, Statement, labelled, conditional, repeated, assigned, go, switched, input, printed, stop, sequence, Item, comment, integer, boolean, array, switch, action, Program}
 use Rattle.symbols.specs.declared.value_type.ValueType.the-variants.{Integer, Boolean}
 use Rattle.symbols.specs.Occurrences.{Role, as-label, as-switch, as-array, of-type, in-switch, as-target, as-selector, as-variable, as-element, Occurrence, at, each, all-at, in-exp, in-element, in-statement, in-group, in-item, occurrences}
 use Rattle.symbols.specs.Symbols.{Kind, a-label, a-switch, an-array, a-variable, definition, or-else, first-said, or-variable, kind-of}
-use Rattle.symbols.specs.Jumps.{some-name, switch-leads}
+use Rattle.symbols.specs.Jumps.{some-name}
 use Rattle.symbols.specs.Rules.{is-switch}
 use Rattle.symbols.specs.Laws.{In, here, later}
 use Rattle.symbols.proofs.Lists.{in-left, in-right}

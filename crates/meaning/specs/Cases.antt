@@ -14,7 +14,7 @@ use Rattle.rolls.specs.Groups.{kept}
 use Rattle.std.specs.declared.option.Option.the-variants.{Some, None}
 use Rattle.meaning.specs.Names.{names-of}
 use Rattle.meaning.specs.Positions.{statements}
-use Rattle.meaning.specs.Runs.{initial, Final, ended, faulted, Status, over, Progress, advance}
+use Rattle.meaning.specs.Runs.{initial, ended, faulted, Status, over, Progress, advance}
 
 -- What comes of a text: a refusal and its place, or the steps made, the cells and the posted figures after them, and
 -- whether the run is over.

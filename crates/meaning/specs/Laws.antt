@@ -1,21 +1,21 @@
 -- Laws of the statement machine, in the words of those who rely on it, for every kind of figures, every table of names and
 -- every text. Rolls come in as what they mean, a list of figures and an ending.
 use mathlib.Core.Path.{_≡_}
-use mathlib.Core.Bool.{Bool, true, false}
-use mathlib.Core.List.{List, [], _∷_, _++_}
-use Prim.Native.Nat.{ℕ, zero, suc, _+_, _≤_, _<_}
+use mathlib.Core.Bool.{Bool, false}
+use mathlib.Core.List.{List, _++_}
+use Prim.Native.Nat.{ℕ, suc, _+_, _≤_, _<_}
 use lib.ListN.{length}
 use Rattle.std.specs.declared.option.Option.{Option}
 use Rattle.std.specs.declared.option.Option.the-variants.{Some, None}
-use Rattle.grammar.specs.Tree.{Row, Name, Exp, Variable, Element, Statement, labelled, conditional, repeated, assigned, go, switched, input, printed, stop, sequence}
-use Rattle.figures.specs.Kinds.{Kind, Outcome, value}
+use Rattle.grammar.specs.Tree.{Row, Name, Exp, Variable, Element, Statement, labelled, conditional, repeated, assigned, go, switched, input, sequence}
+use Rattle.figures.specs.Kinds.{Kind, value}
 use Rattle.symbols.specs.Jumps.{open-labels, is-among}
 use Rattle.rolls.specs.Contents.{Contents}
 use Rattle.meaning.specs.Names.{Names}
 use Rattle.meaning.specs.Expressions.{figure-in}
-use Rattle.meaning.specs.Positions.{Loop, Continuation, nothing, rest, turn, Position, at-go, at-switch, enter, leave, kth}
-use Rattle.meaning.specs.Machine.{Memory, State, Fault, Next, next, faults, state, on-to, variable-name, figure-of, step-at, step}
-use Rattle.meaning.specs.Runs.{initial, Final, ended, faulted, Status, over, Progress, Steps, Finishes, advance}
+use Rattle.meaning.specs.Positions.{Loop, Continuation, nothing, rest, turn, at-go, at-switch, enter, leave, kth}
+use Rattle.meaning.specs.Machine.{Memory, State, Fault, next, faults, state, variable-name, figure-of, step}
+use Rattle.meaning.specs.Runs.{initial, Final, faulted, over, Steps, Finishes, advance}
 
 -- The names in which a statement, or a statement inside it, stores figures: as the place of an assignment or of an `in`,
 -- or as the control variable of a for.

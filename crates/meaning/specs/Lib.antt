@@ -4,5 +4,5 @@ pub mod Positions
 pub mod Machine
 pub mod Runs
 pub mod Laws
-pub mod Landing
+pub mod Accepted
 pub mod Cases

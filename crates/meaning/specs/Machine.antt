@@ -1,6 +1,6 @@
 -- The statement machine: its state, and the rule of each step. A step gives the next state, or a fault and no state.
 -- Everything is said for any kind of figures, for the names of a text and for its statements.
-use mathlib.Core.Bool.{Bool, true, false, cond, not}
+use mathlib.Core.Bool.{Bool, true, false}
 use mathlib.Core.List.{List, [], _∷_, _++_}
 use Prim.Native.Nat.{ℕ}
 use lib.Dec.{ltb}
@@ -8,11 +8,11 @@ use lib.ListN.{length, set}
 use Rattle.std.specs.declared.option.Option.{Option}
 use Rattle.std.specs.declared.option.Option.the-variants.{Some, None}
 use Rattle.grammar.specs.Tree.{Name, Exp, Variable, whole, indexed, Element, single, progression, Statement}
-use Rattle.figures.specs.Kinds.{Outcome, value, refused, Kind, is-zero}
+use Rattle.figures.specs.Kinds.{Outcome, value, refused, Kind}
 use Rattle.rolls.specs.Contents.{Contents, Taken, took, refused as roll-refused, refused-at, first as first-figure, rest as rest-of-roll}
 use Rattle.meaning.specs.Names.{Names}
 use Rattle.meaning.specs.Expressions.{and-then, both, is-true, as-stored, figure-in, cell-of, subscripted-cell, figure}
-use Rattle.meaning.specs.Positions.{Loop, Continuation, rest, turn, Position, end, at-assignment, at-go, at-switch, at-if, at-input, at-print, at-stop, at-element, at-addition, at-test, enter, leave, next-element, next-print, destination, kth}
+use Rattle.meaning.specs.Positions.{Loop, Continuation, turn, Position, end, at-assignment, at-go, at-switch, at-if, at-input, at-print, at-stop, at-element, at-addition, at-test, enter, leave, next-element, next-print, destination, kth}
 
 -- What steps change: the named cells, the roll, and the book. A book has the length that the caller gave it, and holds
 -- the figures posted so far.

@@ -1,9 +1,9 @@
 -- What the statement machine asks of a text's symbol table: how figures are stored under a name, which cells it has, and
 -- the labels of a switch. Names are told apart by their letters.
-use mathlib.Core.List.{List, [], _∷_, map}
+use mathlib.Core.List.{List, [], _∷_}
 use Prim.Native.Nat.{ℕ}
 use lib.IntN.{ℤ}
-use Rattle.grammar.specs.Tree.{Row, Name, Program}
+use Rattle.grammar.specs.Tree.{Program}
 use Rattle.symbols.specs.declared.value_type.ValueType.{ValueType}
 use Rattle.symbols.specs.Occurrences.{each}
 use Rattle.symbols.specs.Symbols.{Kind, a-label, a-switch, an-array, a-variable, cells, low-bound, Symbol, symbols, kind-in, type-in, first-cell}

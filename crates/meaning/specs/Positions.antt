@@ -1,13 +1,13 @@
 -- Where a run stands: at the end, or before a step, with all that comes after it. A continuation says what comes after a
 -- statement, from the inside out; that is where the list element in use of each for around it is kept.
-use mathlib.Core.Bool.{Bool, cond}
+use mathlib.Core.Bool.{cond}
 use mathlib.Core.List.{List, [], _∷_, _++_}
 use Prim.Native.Nat.{ℕ, zero, suc}
 use lib.IntN.{ℤ, pos, negsuc}
 use Rattle.std.specs.declared.option.Option.{Option}
 use Rattle.std.specs.declared.option.Option.the-variants.{Some, None}
 use Rattle.std.specs.shelf.Text.{sameBytes}
-use Rattle.grammar.specs.Tree.{Row, one, more, Name, Exp, Variable, whole, indexed, Element, single, progression, Statement, labelled, conditional, repeated, assigned, go, switched, input, printed, stop, sequence, Item, comment, integer, boolean, array, switch, action, Program}
+use Rattle.grammar.specs.Tree.{Row, one, more, Name, Exp, Variable, whole, Element, single, progression, Statement, labelled, conditional, repeated, assigned, go, switched, input, printed, stop, sequence, Item, comment, integer, boolean, array, switch, action, Program}
 
 -- The first of a row, and those after it.
 abbrev pub first : {A : Type 0} → Row A → A

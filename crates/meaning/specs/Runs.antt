@@ -8,7 +8,7 @@ use Rattle.figures.specs.Kinds.{Kind}
 use Rattle.rolls.specs.Contents.{Contents}
 use Rattle.meaning.specs.Names.{Names}
 use Rattle.meaning.specs.Positions.{beginning}
-use Rattle.meaning.specs.Machine.{Memory, State, Fault, Next, at-end, next, faults, state, step}
+use Rattle.meaning.specs.Machine.{State, Fault, Next, at-end, next, faults, state, step}
 
 -- The first state: cells and roll as they are found, and an empty book of the caller's length.
 abbrev pub initial : {V : Type 0} → Option Statement → List V → Contents V → ℕ → State V

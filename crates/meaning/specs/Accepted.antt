@@ -1,16 +1,20 @@
--- Where the go tos of an accepted text lead: each to the statement behind its label. The rules on names and jumps make the
--- search for labels exact, and no run comes to an end for want of a label.
+-- What the rules on names and jumps give to the runs of an accepted text: each go to leads to the statement behind its
+-- label, so that no run ends for want of one; and every cell that the text names is among the named cells.
 use mathlib.Core.Path.{_≡_}
 use mathlib.Core.List.{List}
-use Prim.Native.Nat.{ℕ}
+use Prim.Native.Nat.{ℕ, _<_}
+use lib.IntN.{ℤ}
 use Rattle.std.specs.declared.option.Option.{Option}
 use Rattle.std.specs.declared.option.Option.the-variants.{Some, None}
 use Rattle.grammar.specs.Tree.{Row, Name, Exp, Element, Statement, labelled, conditional, repeated, sequence, Program}
+use Rattle.symbols.specs.Occurrences.{as-variable, as-element, at, occurrences}
+use Rattle.symbols.specs.Symbols.{symbols, named-cells}
 use Rattle.symbols.specs.Rules.{accepted, verdict}
 use Rattle.symbols.specs.Laws.{In}
-use Rattle.figures.specs.Kinds.{Kind}
+use Rattle.figures.specs.Kinds.{Kind, value}
 use Rattle.rolls.specs.Contents.{Contents}
 use Rattle.meaning.specs.Names.{names-of}
+use Rattle.meaning.specs.Expressions.{element-cell}
 use Rattle.meaning.specs.Positions.{Continuation, Position, at-go, at-switch, enter, destination, statements}
 use Rattle.meaning.specs.Machine.{State}
 use Rattle.meaning.specs.Runs.{initial, Steps}
@@ -50,3 +54,12 @@ pub record Landing-law {V : Type 0} (kind : Kind V) : Type 0 where
       → Lands (statements t) (l .letters) (destination (statements t) (l .letters) k)
   pub switch-lands : (t : Program) (u : State V) → Reached kind t u → (p : ℕ) (x : Name) (e : Exp) (k : Continuation) → u .position ≡ at-switch p x e k
       → (l : List ℕ) → In l (names-of t .labels (x .letters)) → Lands (statements t) l (destination (statements t) l k)
+
+-- The cell of a simple variable, and that of an element whose subscript passes the test, is one of the named cells.
+pub record Cells-there (t : Program) : Type 0 where
+  pub simple : (x : Name) → In (at as-variable x) (occurrences t) → names-of t .extent (x .letters) .first < named-cells (symbols t)
+  pub element : (x : Name) (k : ℤ) (c : ℕ) → In (at as-element x) (occurrences t) → element-cell (names-of t .extent (x .letters)) k ≡ value c
+      → c < named-cells (symbols t)
+
+abbrev pub Storage-law : Type 0
+Storage-law = (t : Program) → verdict t ≡ accepted → Cells-there t
