@@ -15,13 +15,13 @@ use Rattle.grammar.specs.declared.operator.Operator.the-variants.{Equivalence,
 use Rattle.grammar.specs.declared.operator.Prefix.{Prefix}
 use Rattle.grammar.specs.declared.operator.Prefix.the-variants.{Negation, Signed}
 use Rattle.grammar.specs.Tree.{Row, more, Exp, Variable, Statement, Program, prefixed, joined}
-use Rattle.grammar.specs.Classes.{rank, prefix-rank, operand-rank, operator-token, prefix-token, the-mark, the-keyword, an-operator, found, opens, levels-after, prefix-of, operator-of, from-rank}
+use Rattle.grammar.specs.Classes.{heads, rank, prefix-rank, operand-rank, operator-token, prefix-token, the-mark, the-keyword, an-operator, found, opens, levels-after, prefix-of, operator-of, from-rank}
 use Rattle.grammar.specs.Grammar.{Part, ranked, factor, variable, identifier, bound, group, element, statement, item, exp, Phrase, a, row, program, separator, Tree, Value, Is, Derives, alone, another, a-name, a-whole, an-indexed, a-number, a-value, in-brackets, a-comparison, a-factor, an-operand, operated, after-prefix, a-single, a-progression, a-label, an-assignment, a-conditional, a-repetition, a-block, a-jump, a-switched-jump, an-input, a-print, a-stop, a-signed-bound, a-plain-bound, a-group, a-comment, integers, booleans, arrays, a-switch, an-action}
 use Rattle.grammar.specs.Parser.{begin, operators, rest, Script, done, word, either, part, goto, within, variable-factor, factor-script, prefix-script, behind-factor, operator-script, element-rest, row-rest, group-bounds, statement-script, statement-item, part-script, Around, nothing, waiting, at, met, meets, passes, if-found, after, moved, run, tree, initial, onward}
-use Rattle.grammar.proofs.Steps.{heads, Fresh, within-moves, Leads, _then_, alike, alike-on, handed-on, done-alike, part-waits, or-done, takes-word, takes-opening}
+use Rattle.grammar.proofs.Steps.{Fresh, within-moves, Leads, _then_, alike, alike-on, handed-on, done-alike, part-waits, or-done, takes-word, takes-opening}
 use Rattle.grammar.proofs.Ranks.{rank-of, head-rank, No-square, Stops, separator-stops, rank-positive, rank-not-4, operator-again, operator-no-square, no-operator, same-operator, head-at-most-6}
 
-fresh : (p : Part) → Fresh (part-script p)
+pub fresh : (p : Part) → Fresh (part-script p)
 fresh (ranked r) = tt
 fresh factor = tt
 fresh variable = tt
@@ -107,7 +107,7 @@ prefix-operand : (o : Prefix) → prefix-rank o ≤ operand-rank o
 prefix-operand Negation = omega arith
 prefix-operand (Signed s) = omega arith
 
-separator-moves : (p : Part) (ts : Row (Tree p)) (d b : ℕ) (k : Around (row p)) → moved (at d (goto (rest p ts)) k) (mark (separator p)) b ≡ Some (at d (part (begin (a p)) λ t. goto (rest p (more ts t))) k)
+pub separator-moves : (p : Part) (ts : Row (Tree p)) (d b : ℕ) (k : Around (row p)) → moved (at d (goto (rest p ts)) k) (mark (separator p)) b ≡ Some (at d (part (begin (a p)) λ t. goto (rest p (more ts t))) k)
 separator-moves (ranked r) ts d b k = refl
 separator-moves factor ts d b k = refl
 separator-moves variable ts d b k = refl
@@ -118,7 +118,7 @@ separator-moves element ts d b k = refl
 separator-moves statement ts d b k = refl
 separator-moves item ts d b k = refl
 
-separator-opens : (p : Part) → opens (mark (separator p)) ≡ false
+pub separator-opens : (p : Part) → opens (mark (separator p)) ≡ false
 separator-opens (ranked r) = refl
 separator-opens factor = refl
 separator-opens variable = refl

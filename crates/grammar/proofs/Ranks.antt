@@ -12,10 +12,9 @@ use Rattle.words.specs.declared.token.Mark.the-variants.{OpenRound, OpenSquare}
 use Rattle.words.specs.Token.{Word, mark}
 use Rattle.grammar.specs.declared.operator.Operator.{Operator}
 use Rattle.grammar.specs.declared.operator.Operator.the-variants.{Equivalence, Disjunction, Conjunction, Additive, Multiplicative}
-use Rattle.grammar.specs.Classes.{rank, operator-token, the-mark, an-operator, when, operator-of, between-ranks, found}
+use Rattle.grammar.specs.Classes.{heads, rank, operator-token, the-mark, an-operator, when, operator-of, between-ranks, found}
 use Rattle.grammar.specs.Grammar.{Part, ranked, factor, variable, identifier, bound, group, element, statement, item, separator}
 use Rattle.grammar.proofs.Found.{some-same, between-ranks-some}
-use Rattle.grammar.proofs.Steps.{heads}
 
 abbrev pub rank-of : Option Operator → ℕ
 rank-of None = 0

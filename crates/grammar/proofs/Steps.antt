@@ -9,14 +9,9 @@ use Rattle.std.specs.declared.option.Option.{Option}
 use Rattle.std.specs.declared.option.Option.the-variants.{Some, None}
 use Rattle.words.specs.Token.{Token, Word}
 use Rattle.grammar.specs.declared.refusal.SentenceRefusal.the-variants.{TooDeep}
-use Rattle.grammar.specs.Classes.{Class, Content, found, opens, levels-after}
+use Rattle.grammar.specs.Classes.{heads, Class, Content, found, opens, levels-after}
 use Rattle.grammar.specs.Grammar.{Phrase, Value}
 use Rattle.grammar.specs.Parser.{Goal, Script, done, word, either, part, goto, within, start, Around, waiting, State, at, Met, takes, passes, refuses, if-found, met-within, meets, met, after, moved, then-ended, ended, ended-around, finished, Outcome, refused, early-or, levels, onward, run}
-
--- What a class has of the next word.
-abbrev pub heads : (c : Class) → List Word → Option (Content c)
-heads c [] = None
-heads c (w ∷ ws) = found c (w .token)
 
 -- A script that is not done before it has taken a word.
 abbrev pub Fresh : {p : Phrase} → Script p → Type 0

@@ -1,7 +1,7 @@
 -- Classes of words: which words a rule of the grammar can have at a place, and what it learns from the word; how tightly
 -- each operator binds; which words open a level and which close one.
 use mathlib.Core.Bool.{Bool, true, false, cond}
-use mathlib.Core.List.{List}
+use mathlib.Core.List.{List, [], _∷_}
 use Prim.Native.Nat.{ℕ, zero, suc}
 use lib.Dec.{eqb, leb}
 use Rattle.std.specs.declared.option.Option.{Option}
@@ -12,7 +12,7 @@ use Rattle.words.specs.declared.token.Mark.{Mark}
 use Rattle.words.specs.declared.token.Mark.the-variants.{Semicolon, Colon, Becomes, Into, Comma, OpenRound, CloseRound, OpenSquare, CloseSquare}
 use Rattle.words.specs.declared.token.Keyword.{Keyword}
 use Rattle.words.specs.declared.token.Keyword.the-variants.{Begin, End, If, For, Go, To, Switch, Integer, Boolean, Array, Comment, In, Print, Stop, And, Or, Not, Eqv}
-use Rattle.words.specs.Token.{Token, name, number, keyword, mark, sign, scaling, relation}
+use Rattle.words.specs.Token.{Token, Word, name, number, keyword, mark, sign, scaling, relation}
 use Rattle.grammar.specs.declared.operator.Operator.{Operator}
 use Rattle.grammar.specs.declared.operator.Operator.the-variants.{Equivalence, Disjunction, Conjunction, Additive, Multiplicative}
 use Rattle.grammar.specs.declared.operator.Prefix.{Prefix}
@@ -199,6 +199,11 @@ found a-sign t = sign-of t
 found a-relation t = relation-of t
 found (a-prefix r) t = from-rank r (prefix-of t)
 found (an-operator r q) t = between-ranks r q (operator-of t)
+
+-- What a class has of the next word.
+abbrev pub heads : (c : Class) → List Word → Option (Content c)
+heads c [] = None
+heads c (w ∷ ws) = found c (w .token)
 
 -- `(`, `[`, if, for and begin open a level; `)`, `]` and end close theirs; that of an if or a for closes with its statement.
 abbrev pub mark-opens : Mark → Bool

@@ -1,0 +1,6 @@
+pub mod Tables
+pub mod Moving
+pub mod Going
+pub mod Holding
+pub mod Naming
+pub mod Rows
