@@ -7,3 +7,4 @@ pub mod Soundness
 pub mod Standing
 pub mod Stepping
 pub mod Values
+pub mod Subscripts
