@@ -36,7 +36,7 @@ expect 0 $'figures: 0\ntotal: 0\nending: end' roll empty.roll
 expect 1 'ial: no.roll: the file cannot be read' roll no.roll
 expect 1 'ial: refused 48: a group has 1 to 64 figures' roll pairs.roll --group 65
 expect 1 'ial: refused 48: a group has 1 to 64 figures' roll pairs.roll --group 0
-expect 1 'ial: the size after --group is a number from 1 to 64' roll pairs.roll --group two
+expect 1 'ial: a number is wanted after this option' roll pairs.roll --group two
 expect 1 'ial: `roll` takes FILE and --group G; `ial help` explains the commands' roll
 expect 1 'ial: there is no such command; `ial help` explains the commands' valuate
 

@@ -1,7 +1,10 @@
 // The command line: which command is asked for, and with what.
 
 use crate::failure::Failure;
+use crate::run_arguments;
+use std::alloc::Global;
 
+#[derive(Drop)]
 pub enum Command<'a> {
     Help,
     // `roll FILE [--group G]`
@@ -10,15 +13,47 @@ pub enum Command<'a> {
     Check { file: &'a str },
     // `list FILE`
     List { file: &'a str },
+    // `run CODE ROLL ..`
+    Run(RunOptions<'a>),
+}
+
+#[derive(Clone, Copy)]
+pub enum KindName {
+    Whole,
+    Hundredths,
+}
+
+// `--set CELL=FIGURE`
+#[derive(Clone, Copy)]
+pub struct Setting<'a> {
+    pub cell: usize,
+    pub figure: &'a str,
+}
+
+#[derive(Drop)]
+pub struct RunOptions<'a> {
+    pub code: &'a str,
+    pub roll: &'a str,
+    pub kind: KindName,
+    pub group: Option<usize>,
+    // how many figures the book has room for
+    pub book: usize,
+    // steps asked for at a call
+    pub steps: u64,
+    // steps after which the run is left
+    pub limit: u64,
+    pub json: bool,
+    pub settings: Vec<Setting<'a>>,
 }
 
 // The command that the words say, the first of which is the program's own name.
-pub(crate) fn parse<'a>(words: &'a [String]) -> Result<Command<'a>, Failure> {
+pub(crate) fn parse<'a>(heap: Global, words: &'a [String]) -> Result<Command<'a>, Failure> {
     match words {
         [] | [_] => Ok(Command::Help),
         [_, name, rest @ ..] => match name.as_str() {
             "help" | "--help" | "-h" => Ok(Command::Help),
             "roll" => parse_roll(rest),
+            "run" => Ok(Command::Run(run_arguments::parse(heap, rest)?)),
             "check" => match rest {
                 [file] => Ok(Command::Check {
                     file: file.as_str(),

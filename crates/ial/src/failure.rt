@@ -11,10 +11,12 @@ pub enum Failure {
     Usage(&'static str),
     // a file cannot be read
     Unreadable(String),
-    // a group size that is no number
+    // a word that is no number where one is wanted
     NoNumber,
     // a group size that the leaver filter refuses, by its number
     GroupSize(u8),
+    // a setting or an advance that the machine refuses, by its number
+    Setting(u8),
     NoMemory,
     Output,
     // a refusal that the report has told already
@@ -29,11 +31,12 @@ pub impl fmt::Display for Failure as FailureDisplay {
                 let file = file.as_str();
                 write!(f, "{file}: the file cannot be read")
             }
-            Failure::NoNumber => f.write_str("the size after --group is a number from 1 to 64"),
+            Failure::NoNumber => f.write_str("a number is wanted after this option"),
             Failure::GroupSize(number) => write!(
                 f,
                 "refused {number}: a group has 1 to 64 figures"
             ),
+            Failure::Setting(number) => write!(f, "refused {number}: --set names a named cell by its number"),
             Failure::NoMemory => f.write_str("there is not enough memory"),
             Failure::Output => f.write_str("reading or writing failed"),
             Failure::Told => f.write_str("refused"),

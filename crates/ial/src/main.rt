@@ -6,7 +6,11 @@ mod failure;
 mod help;
 mod list;
 mod loaded;
+mod outcome;
 mod roll;
+mod run;
+mod run_arguments;
+mod shown;
 mod visible;
 
 use crate::failure::FailureDisplay;
@@ -16,21 +20,22 @@ use arguments::Command;
 use failure::Failure;
 use std::env;
 
-fn run(rt: &LibcRuntime) -> Result<(), Failure> {
+fn execute(rt: &LibcRuntime) -> Result<(), Failure> {
     let mut words = Vec::new(rt.alloc());
     for word in env::args(rt)? {
         words.push(word)?;
     }
-    match arguments::parse(words.as_slice())? {
+    match arguments::parse(rt.alloc(), words.as_slice())? {
         Command::Help => help::print(rt),
         Command::Roll { file, group } => roll::report(rt, file, group),
         Command::Check { file } => check::report(rt, file),
         Command::List { file } => list::report(rt, file),
+        Command::Run(options) => run::report(rt, &options),
     }
 }
 
 fn main(rt: LibcRuntime) -> Result<(), Failure> {
-    match run(&rt) {
+    match execute(&rt) {
         Ok(()) => Ok(()),
         Err(Failure::Told) => Err(Failure::Told),
         Err(failure) => {
