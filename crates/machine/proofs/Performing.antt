@@ -42,28 +42,70 @@ module _ {V : Type 0} (kind : Kind V) (c : Code) (s : State V) where
   pub settled-fails : (a : Attempt (State V)) (f : Fault) → a ≡ fails f → settled kind c s a ≡ faults f (s .memory)
   settled-fails a f e = ap (settled kind c s) e
 
-  -- The effect of each form, by the work that it does.
   abbrev to : ℕ → List V → Memory V → State V
   to p vs m = record { place = p; stack = vs; memory = m }
 
-  pub calculate-effect : (f : Calculation) (x : ℕ) (a : Attempt (List V)) → a ≡ calculated kind f x (s .stack) → effect kind c s (Calculate f) x ≡ (a >>= λ vs. gives (to (s .place + 1) vs (s .memory)))
-  calculate-effect f x a e = ap (λ a. a >>= λ vs. gives (to (s .place + 1) vs (s .memory))) (sym e)
+  -- What each form comes to, by the work that it does.
+  module _ (o : Operation) (x : ℕ) (there : operation-at (c .operations) (s .place) ≡ Some o) (named : x ≡ getD (c .operands) (s .place) 0) where
+    pub pass-goes : Pass ≡ instruction o → length (s .stack) ≤ c .sizes .depth → performed kind c s ≡ goes (to (s .place + 1) (s .stack) (s .memory))
+    pass-goes is l =
+        performed-as o Pass x there is named
+        ∙ settled-goes (effect kind c s Pass x) (to (s .place + 1) (s .stack) (s .memory)) refl l
 
-  pub transfer-effect : (f : transfers.Transfer) (x : ℕ) (a : Attempt (List V × List V)) → a ≡ transferred kind f x (s .stack) (s .memory .cells) → effect kind c s (Transfer f) x ≡ (a >>= λ p. gives (to (s .place + 1) (p .0) (with-cells (s .memory) (p .1))))
-  transfer-effect f x a e = ap (λ a. a >>= λ p. gives (to (s .place + 1) (p .0) (with-cells (s .memory) (p .1)))) (sym e)
+    module _ (f : Calculation) (is : Calculate f ≡ instruction o) where
+      pub calculate-goes : (vs : List V) → gives vs ≡ calculated kind f x (s .stack) → length vs ≤ c .sizes .depth → performed kind c s ≡ goes (to (s .place + 1) vs (s .memory))
+      calculate-goes vs e l =
+          performed-as o (Calculate f) x there is named
+          ∙ settled-goes (effect kind c s (Calculate f) x) (to (s .place + 1) vs (s .memory)) (ap (λ a. a >>= λ vs. gives (to (s .place + 1) vs (s .memory))) (sym e)) l
 
-  pub go-effect : (f : Branch) (x p : ℕ) (vs : List V) → gone kind (c .operands) f x (s .place) (s .stack) ≡ gives (p, vs) → effect kind c s (Go f) x ≡ gives (to p vs (s .memory))
-  go-effect f x p vs e = ap (λ a. a >>= λ p. gives (to (p .0) (p .1) (s .memory))) e
+      pub calculate-fails : (k : Fault) → fails k ≡ calculated kind f x (s .stack) → performed kind c s ≡ faults k (s .memory)
+      calculate-fails k e =
+          performed-as o (Calculate f) x there is named
+          ∙ settled-fails (effect kind c s (Calculate f) x) k (ap (λ a. a >>= λ vs. gives (to (s .place + 1) vs (s .memory))) (sym e))
 
-  pub take-effect : (r : Bool) (x : ℕ) (i : V) (vs : List V) (a : Attempt (List V × Contents V)) → s .stack ≡ i ∷ vs → a ≡ taken-into kind r x i (s .memory .cells) (s .memory .roll) → effect kind c s (Take r) x ≡ (a >>= λ p. gives (to (s .place + 1) vs (with-taken (s .memory) (p .0) (p .1))))
-  take-effect r x i vs a t e =
-      ap (λ ws. one ws (λ i vs. taken-into kind r x i (s .memory .cells) (s .memory .roll) >>= λ p. gives (to (s .place + 1) vs (with-taken (s .memory) (p .0) (p .1))))) t
-      ∙ ap (λ a. a >>= λ p. gives (to (s .place + 1) vs (with-taken (s .memory) (p .0) (p .1)))) (sym e)
+    module _ (f : transfers.Transfer) (is : Transfer f ≡ instruction o) where
+      pub transfer-goes : (vs cells : List V) → gives (vs, cells) ≡ transferred kind f x (s .stack) (s .memory .cells) → length vs ≤ c .sizes .depth → performed kind c s ≡ goes (to (s .place + 1) vs (with-cells (s .memory) cells))
+      transfer-goes vs cells e l =
+          performed-as o (Transfer f) x there is named
+          ∙ settled-goes (effect kind c s (Transfer f) x) (to (s .place + 1) vs (with-cells (s .memory) cells)) (ap (λ a. a >>= λ p. gives (to (s .place + 1) (p .0) (with-cells (s .memory) (p .1)))) (sym e)) l
 
-  pub post-effect : (x : ℕ) (v : V) (vs : List V) (a : Attempt (List V)) → s .stack ≡ v ∷ vs → a ≡ posted-in (s .memory .book) (s .memory .posted) v → effect kind c s Post x ≡ (a >>= λ book. gives (to (s .place + 1) vs (with-posted (s .memory) book)))
-  post-effect x v vs a t e =
-      ap (λ ws. one ws (λ v vs. posted-in (s .memory .book) (s .memory .posted) v >>= λ book. gives (to (s .place + 1) vs (with-posted (s .memory) book)))) t
-      ∙ ap (λ a. a >>= λ book. gives (to (s .place + 1) vs (with-posted (s .memory) book))) (sym e)
+      pub transfer-fails : (k : Fault) → fails k ≡ transferred kind f x (s .stack) (s .memory .cells) → performed kind c s ≡ faults k (s .memory)
+      transfer-fails k e =
+          performed-as o (Transfer f) x there is named
+          ∙ settled-fails (effect kind c s (Transfer f) x) k (ap (λ a. a >>= λ p. gives (to (s .place + 1) (p .0) (with-cells (s .memory) (p .1)))) (sym e))
+
+    pub go-goes : (f : Branch) → Go f ≡ instruction o → (p : ℕ) (vs : List V) → gone kind (c .operands) f x (s .place) (s .stack) ≡ gives (p, vs) → length vs ≤ c .sizes .depth → performed kind c s ≡ goes (to p vs (s .memory))
+    go-goes f is p vs e l =
+        performed-as o (Go f) x there is named
+        ∙ settled-goes (effect kind c s (Go f) x) (to p vs (s .memory)) (ap (λ a. a >>= λ p. gives (to (p .0) (p .1) (s .memory))) e) l
+
+    module _ (r : Bool) (is : Take r ≡ instruction o) (i : V) (vs : List V) (top : s .stack ≡ i ∷ vs) where
+      take-effect : (a : Attempt (List V × Contents V)) → a ≡ taken-into kind r x i (s .memory .cells) (s .memory .roll) → effect kind c s (Take r) x ≡ (a >>= λ p. gives (to (s .place + 1) vs (with-taken (s .memory) (p .0) (p .1))))
+      take-effect a e =
+          ap (λ ws. one ws (λ i vs. taken-into kind r x i (s .memory .cells) (s .memory .roll) >>= λ p. gives (to (s .place + 1) vs (with-taken (s .memory) (p .0) (p .1))))) top
+          ∙ ap (λ a. a >>= λ p. gives (to (s .place + 1) vs (with-taken (s .memory) (p .0) (p .1)))) (sym e)
+
+      pub take-goes : (cells : List V) (roll : Contents V) → gives (cells, roll) ≡ taken-into kind r x i (s .memory .cells) (s .memory .roll) → length vs ≤ c .sizes .depth → performed kind c s ≡ goes (to (s .place + 1) vs (with-taken (s .memory) cells roll))
+      take-goes cells roll e l =
+          performed-as o (Take r) x there is named
+          ∙ settled-goes (effect kind c s (Take r) x) (to (s .place + 1) vs (with-taken (s .memory) cells roll)) (take-effect (gives (cells, roll)) e) l
+
+      pub take-fails : (k : Fault) → fails k ≡ taken-into kind r x i (s .memory .cells) (s .memory .roll) → performed kind c s ≡ faults k (s .memory)
+      take-fails k e = performed-as o (Take r) x there is named ∙ settled-fails (effect kind c s (Take r) x) k (take-effect (fails k) e)
+
+    module _ (is : Post ≡ instruction o) (v : V) (vs : List V) (top : s .stack ≡ v ∷ vs) where
+      post-effect : (a : Attempt (List V)) → a ≡ posted-in (s .memory .book) (s .memory .posted) v → effect kind c s Post x ≡ (a >>= λ book. gives (to (s .place + 1) vs (with-posted (s .memory) book)))
+      post-effect a e =
+          ap (λ ws. one ws (λ v vs. posted-in (s .memory .book) (s .memory .posted) v >>= λ book. gives (to (s .place + 1) vs (with-posted (s .memory) book)))) top
+          ∙ ap (λ a. a >>= λ book. gives (to (s .place + 1) vs (with-posted (s .memory) book))) (sym e)
+
+      pub post-goes : (book : List V) → gives book ≡ posted-in (s .memory .book) (s .memory .posted) v → length vs ≤ c .sizes .depth → performed kind c s ≡ goes (to (s .place + 1) vs (with-posted (s .memory) book))
+      post-goes book e l =
+          performed-as o Post x there is named
+          ∙ settled-goes (effect kind c s Post x) (to (s .place + 1) vs (with-posted (s .memory) book)) (post-effect (gives book) e) l
+
+      pub post-fails : (k : Fault) → fails k ≡ posted-in (s .memory .book) (s .memory .posted) v → performed kind c s ≡ faults k (s .memory)
+      post-fails k e = performed-as o Post x there is named ∙ settled-fails (effect kind c s Post x) k (post-effect (fails k) e)
 
 -- Where control goes from a jump: to the next place, or to where it lands.
 abbrev place-in : {V : Type 0} → Attempt (ℕ × List V) → ℕ

@@ -7,6 +7,7 @@ mod tests {
     use crate::runner::told;
     use code::check::check as check_code;
     use code::checked::Checked;
+    use code::refusals::RefusalDebug;
     use code::sizes::Sizes;
     use figures::hundredths::Hundredths;
     use figures::hundredths::HundredthsFigures;
@@ -14,6 +15,7 @@ mod tests {
     use figures::whole::WholeFigures;
     use machine::prepare::prepare;
     use machine::ready::Ready;
+    use machine::refusal::RefusalDebug as _;
     use rolls::table::TableRoll;
     use rolls::table::TableRollRoll;
     use rolls::text::TextRoll;
@@ -57,7 +59,15 @@ mod tests {
             let mut roll = TableRoll::new(&[]);
             let operations = [1, 2, 2, operation, 29, 0];
             let operands = [77, a, b, 0, 0, 0];
-            let came = run(&operations, &operands, 10, whole(0), &mut book, &mut roll);
+            let came = run(
+                &operations,
+                &operands,
+                10,
+                &mut [whole(0); 8],
+                &mut [whole(0); 4],
+                &mut book,
+                &mut roll,
+            );
             check_eq(came.2, end)?;
             check_eq(book[0].units, posts)?;
         }
@@ -80,7 +90,15 @@ mod tests {
             let mut roll = TableRoll::new(&[]);
             let operations = [1, 2, operation, 29, 0];
             let operands = [77, a, 0, 0, 0];
-            let came = run(&operations, &operands, 10, whole(0), &mut book, &mut roll);
+            let came = run(
+                &operations,
+                &operands,
+                10,
+                &mut [whole(0); 8],
+                &mut [whole(0); 4],
+                &mut book,
+                &mut roll,
+            );
             check_eq(came, (1, 1, 1, 0, 0))?;
             check_eq(book[0].units, posts)?;
         }
@@ -96,7 +114,15 @@ mod tests {
             let mut roll = TableRoll::new(&figures);
             let operations = [1, 2, operation, 1, 3, 29, 0];
             let operands = [0, 0, 167_772_164_096, 3, 0, 0, 0];
-            let came = run(&operations, &operands, 1, money(0), &mut book, &mut roll);
+            let came = run(
+                &operations,
+                &operands,
+                1,
+                &mut [money(0); 8],
+                &mut [money(0); 4],
+                &mut book,
+                &mut roll,
+            );
             check_eq(came, (2, 1, 1, 0, 0))?;
             check_eq(book[0].hundredths, posts)?;
         }
@@ -105,7 +131,15 @@ mod tests {
             let mut roll = TableRoll::new(&figures);
             let operations = [1, 2, 2, operation, 29, 0];
             let operands = [0, 7, 2, 0, 0, 0];
-            let came = run(&operations, &operands, 1, money(0), &mut book, &mut roll);
+            let came = run(
+                &operations,
+                &operands,
+                1,
+                &mut [money(0); 8],
+                &mut [money(0); 4],
+                &mut book,
+                &mut roll,
+            );
             check_eq(came, (1, 1, 1, 0, 0))?;
             check_eq(book[0].hundredths, posts)?;
         }
@@ -192,7 +226,15 @@ mod tests {
             for slice in [1, 7, 1_000] {
                 let mut book = [whole(0); 2];
                 let mut roll = TableRoll::new(&[]);
-                let came = run(operations, operands, slice, whole(0), &mut book, &mut roll);
+                let came = run(
+                    operations,
+                    operands,
+                    slice,
+                    &mut [whole(0); 8],
+                    &mut [whole(0); 4],
+                    &mut book,
+                    &mut roll,
+                );
                 check_eq(came, comes_to)?;
                 check_eq(book[0].units, posts)?;
             }
@@ -278,7 +320,8 @@ mod tests {
                 &operations,
                 &operands,
                 slice,
-                whole(0),
+                &mut [whole(0); 8],
+                &mut [whole(0); 4],
                 &mut book,
                 &mut roll,
             );
@@ -290,7 +333,8 @@ mod tests {
                 &operations,
                 &operands,
                 slice,
-                whole(0),
+                &mut [whole(0); 8],
+                &mut [whole(0); 4],
                 &mut book,
                 &mut ends,
             );
@@ -301,7 +345,8 @@ mod tests {
                 &operations,
                 &operands,
                 slice,
-                whole(0),
+                &mut [whole(0); 8],
+                &mut [whole(0); 4],
                 &mut book,
                 &mut damaged,
             );

@@ -25,12 +25,13 @@ pub fn told(status: Status) -> (u64, usize, u8, u64, usize) {
     }
 }
 
-// Runs code over eight cells, a stack of four and the book, so many steps at a call; a refused code tells its number.
-pub fn run<R: Roll>(
-    operations: &[u8],
-    operands: &[u64],
+// Runs code of eight cells and depth four, so many steps at a call; a refused call tells its number.
+pub fn run<'a, R: Roll>(
+    operations: &'a [u8],
+    operands: &'a [u64],
     slice: u64,
-    blank: R::Figure,
+    cells: &mut [R::Figure],
+    stack: &mut [R::Figure],
     book: &mut [R::Figure],
     roll: &mut R,
 ) -> (u64, usize, u8, u64, usize) {
@@ -49,15 +50,13 @@ pub fn run<R: Roll>(
     if let Err(refusal) = check(&mut code, sizes, operations, operands) {
         return (0, 0, refusal.number(), 0, 0);
     }
-    let mut cells = [blank; 8];
-    let mut stack = [blank; 4];
     let mut ready = Ready::lone_halt();
-    if let Err(refusal) = prepare(&mut ready, &code, &mut cells) {
+    if let Err(refusal) = prepare(&mut ready, &code, cells) {
         return (0, 0, refusal.number(), 0, 0);
     }
     let mut run = ready.start();
     for _ in 0..200 {
-        if let Err(_) = run.advance(slice, &mut cells, &mut stack, book, roll) {
+        if let Err(_) = run.advance(slice, cells, stack, book, roll) {
             return told(run.status());
         }
     }

@@ -1,6 +1,6 @@
--- What each form of operation comes to.
-use mathlib.Core.Path.{_≡_, refl, sym, ap, ap₂, subst, _∙_}
-use mathlib.Core.List.{List, _∷_, map}
+-- What each form of operation comes to, by the work of the function that it calls.
+use mathlib.Core.Path.{_≡_, sym, ap, ap₂, subst, _∙_}
+use mathlib.Core.List.{List, map}
 use Prim.Native.Nat.{ℕ, _+_, _-_, _<_, _≤_}
 use native.Mathlib.Omega.{arith}
 use lib.ListN.{length, getD}
@@ -11,11 +11,11 @@ use Rattle.code.specs.WellFormed.{Names-cells}
 use Rattle.machine.specs.declared.instruction.Instruction.the-variants.{Pass, Calculate, Transfer, Go, Take, Post}
 use Rattle.machine.specs.Faults.{fault-of}
 use Rattle.machine.specs.Fits.{branch-operand, transfer-operand}
-use Rattle.machine.specs.Machine.{gives, fails, gone, goes, faults, State}
+use Rattle.machine.specs.Machine.{gives, gone, goes, faults}
 use Rattle.machine.specs.Views.{memory, operands, state, valued}
 use Rattle.machine.proofs.Arrays.{operands-length, top-at}
 use Rattle.machine.proofs.Facts.{well-formed, facts-at, follows-on, room, sound-at}
-use Rattle.machine.proofs.Performing.{performed-as, settled-goes, settled-fails, calculate-effect, transfer-effect, go-effect, take-effect, post-effect, branch-low, branch-names, follows-branch}
+use Rattle.machine.proofs.Performing.{branch-low, branch-names, calculate-fails, calculate-goes, follows-branch, go-goes, pass-goes, post-fails, post-goes, take-fails, take-goes, transfer-fails, transfer-goes}
 use Rattle.machine.proofs.step.perform.Needs as need
 
 pub calculate-requires : need.calculate-requires
@@ -25,7 +25,8 @@ calculate-requires g c κs =
     let i = c .args .frame .now .place in
     let d = c .args .frame .now .depth in
     let x = c .operand-at-operand .result in
-    let h = facts-at code w i (c .args .operation) (Calculate (c .in-Calculate .calculation)) x (c .pre .at) (c .in-Calculate .ensures tt) (c .operand-at-operand .ensures) in
+    let is = c .in-Calculate .ensures tt in
+    let h = facts-at code w i (c .args .operation) (Calculate (c .in-Calculate .calculation)) x (c .pre .at) is (c .operand-at-operand .ensures) in
     let r = room code w (c .pre .fits) (h .0) in
     record { low = r .low; high = omega arith; tall = omega arith; operand = h .1 }
 
@@ -36,18 +37,16 @@ returns-in-Break-frame g c =
     let i = c .args .frame .now .place in
     let d = c .args .frame .now .depth in
     let x = c .operand-at-operand .result in
-    let h = facts-at code w i (c .args .operation) (Calculate (c .in-Calculate .calculation)) x (c .pre .at) (c .in-Calculate .ensures tt) (c .operand-at-operand .ensures) in
+    let is = c .in-Calculate .ensures tt in
+    let h = facts-at code w i (c .args .operation) (Calculate (c .in-Calculate .calculation)) x (c .pre .at) is (c .operand-at-operand .ensures) in
     let kind = g .Figure·Figures .kind in
     let means = g .Figure·Figures .means in
     let stack = c .args .stack .now in
     let roll = g .R·Roll .holds (c .args .roll .now) in
     let s = state means (c .args .frame .now) (c .args .cells .now) stack (c .args .book .now) roll in
     let q = err-from-errBy (c .from-residual .result) (c .from-residual .ensures .1) in
-    let e = c .in-Break-frame .ensures tt in
-    rw (q .1, q .2) (record {
-      done = performed-as kind code s (c .args .operation) (Calculate (c .in-Calculate .calculation)) x (c .pre .at) (c .in-Calculate .ensures tt) (c .operand-at-operand .ensures) ∙ settled-fails kind code s _ _ (calculate-effect kind code s (c .in-Calculate .calculation) x _ (e .work));
-      next = tt;
-    })
+    let fault = fault-of (c .in-Break-frame .field-0 .0) in
+    rw (q .1, q .2) (record { done = calculate-fails kind code s (c .args .operation) x (c .pre .at) (c .operand-at-operand .ensures) (c .in-Calculate .calculation) is fault (c .in-Break-frame .ensures tt .work); next = tt })
 
 pub returns-in-Continue-frame : need.returns-in-Continue-frame
 returns-in-Continue-frame g c =
@@ -56,7 +55,8 @@ returns-in-Continue-frame g c =
     let i = c .args .frame .now .place in
     let d = c .args .frame .now .depth in
     let x = c .operand-at-operand .result in
-    let h = facts-at code w i (c .args .operation) (Calculate (c .in-Calculate .calculation)) x (c .pre .at) (c .in-Calculate .ensures tt) (c .operand-at-operand .ensures) in
+    let is = c .in-Calculate .ensures tt in
+    let h = facts-at code w i (c .args .operation) (Calculate (c .in-Calculate .calculation)) x (c .pre .at) is (c .operand-at-operand .ensures) in
     let kind = g .Figure·Figures .kind in
     let means = g .Figure·Figures .means in
     let stack = c .args .stack .now in
@@ -68,9 +68,8 @@ returns-in-Continue-frame g c =
     let n = c .in-Continue-frame .field-0 in
     let same = c .calculate .kept .stack in
     let long = operands-length means after n (omega arith) in
-    let t : State (g .Figure·Figures .Value) = record { place = i + 1; stack = operands means n after; memory = s .memory } in
     record {
-      done = performed-as kind code s (c .args .operation) (Calculate (c .in-Calculate .calculation)) x (c .pre .at) (c .in-Calculate .ensures tt) (c .operand-at-operand .ensures) ∙ settled-goes kind code s _ t (calculate-effect kind code s (c .in-Calculate .calculation) x _ (e .work)) (omega arith);
+      done = calculate-goes kind code s (c .args .operation) x (c .pre .at) (c .operand-at-operand .ensures) (c .in-Calculate .calculation) is (operands means n after) (e .work) (omega arith);
       next = follows-on code w (c .pre .fits) (h .0) n (e .depth);
     }
 
@@ -81,7 +80,8 @@ transfer-figure-requires g c κs =
     let i = c .args .frame .now .place in
     let d = c .args .frame .now .depth in
     let x = c .operand-at-operand .result in
-    let h = facts-at code w i (c .args .operation) (Transfer (c .in-Transfer .transfer)) x (c .pre .at) (c .in-Transfer .ensures tt) (c .operand-at-operand .ensures) in
+    let is = c .in-Transfer .ensures tt in
+    let h = facts-at code w i (c .args .operation) (Transfer (c .in-Transfer .transfer)) x (c .pre .at) is (c .operand-at-operand .ensures) in
     let r = room code w (c .pre .fits) (h .0) in
     record {
       low = r .low;
@@ -97,7 +97,8 @@ returns-in-Break-frame-2 g c =
     let i = c .args .frame .now .place in
     let d = c .args .frame .now .depth in
     let x = c .operand-at-operand .result in
-    let h = facts-at code w i (c .args .operation) (Transfer (c .in-Transfer .transfer)) x (c .pre .at) (c .in-Transfer .ensures tt) (c .operand-at-operand .ensures) in
+    let is = c .in-Transfer .ensures tt in
+    let h = facts-at code w i (c .args .operation) (Transfer (c .in-Transfer .transfer)) x (c .pre .at) is (c .operand-at-operand .ensures) in
     let kind = g .Figure·Figures .kind in
     let means = g .Figure·Figures .means in
     let stack = c .args .stack .now in
@@ -105,10 +106,11 @@ returns-in-Break-frame-2 g c =
     let s = state means (c .args .frame .now) (c .args .cells .now) stack (c .args .book .now) roll in
     let q = err-from-errBy (c .from-residual-in-Break-frame-2 .result) (c .from-residual-in-Break-frame-2 .ensures .1) in
     let e = c .in-Break-frame-2 .ensures tt in
+    let fault = fault-of (c .in-Break-frame-2 .field-0 .0) in
     rw (q .1, q .2) (record {
       done =
-          performed-as kind code s (c .args .operation) (Transfer (c .in-Transfer .transfer)) x (c .pre .at) (c .in-Transfer .ensures tt) (c .operand-at-operand .ensures) ∙ settled-fails kind code s _ _ (transfer-effect kind code s (c .in-Transfer .transfer) x _ (e .work))
-          ∙ ap (λ cells. faults (fault-of (c .in-Break-frame-2 .field-0 .0)) (memory means (c .args .frame .now .posted) cells (c .args .book .now) roll)) (sym (e .depth));
+          transfer-fails kind code s (c .args .operation) x (c .pre .at) (c .operand-at-operand .ensures) (c .in-Transfer .transfer) is fault (e .work)
+          ∙ ap (λ cells. faults fault (memory means (c .args .frame .now .posted) cells (c .args .book .now) roll)) (sym (e .depth));
       next = tt;
     })
 
@@ -119,7 +121,8 @@ returns-in-Continue-frame-2 g c =
     let i = c .args .frame .now .place in
     let d = c .args .frame .now .depth in
     let x = c .operand-at-operand .result in
-    let h = facts-at code w i (c .args .operation) (Transfer (c .in-Transfer .transfer)) x (c .pre .at) (c .in-Transfer .ensures tt) (c .operand-at-operand .ensures) in
+    let is = c .in-Transfer .ensures tt in
+    let h = facts-at code w i (c .args .operation) (Transfer (c .in-Transfer .transfer)) x (c .pre .at) is (c .operand-at-operand .ensures) in
     let kind = g .Figure·Figures .kind in
     let means = g .Figure·Figures .means in
     let stack = c .args .stack .now in
@@ -131,9 +134,8 @@ returns-in-Continue-frame-2 g c =
     let n = c .in-Continue-frame-2 .field-0 in
     let same = c .transfer-figure .kept .stack in
     let long = operands-length means after n (omega arith) in
-    let t : State (g .Figure·Figures .Value) = record { place = i + 1; stack = operands means n after; memory = memory means (c .args .frame .now .posted) (c .transfer-figure .last .cells) (c .args .book .now) roll } in
     record {
-      done = performed-as kind code s (c .args .operation) (Transfer (c .in-Transfer .transfer)) x (c .pre .at) (c .in-Transfer .ensures tt) (c .operand-at-operand .ensures) ∙ settled-goes kind code s _ t (transfer-effect kind code s (c .in-Transfer .transfer) x _ (e .work)) (omega arith);
+      done = transfer-goes kind code s (c .args .operation) x (c .pre .at) (c .operand-at-operand .ensures) (c .in-Transfer .transfer) is (operands means n after) (map means (c .transfer-figure .last .cells)) (e .work) (omega arith);
       next = follows-on code w (c .pre .fits) (h .0) n (e .depth);
     }
 
@@ -144,7 +146,8 @@ go-requires g c κs =
     let i = c .args .frame .now .place in
     let d = c .args .frame .now .depth in
     let x = c .operand-at-operand .result in
-    let h = facts-at code w i (c .args .operation) (Go (c .in-Go .branch)) x (c .pre .at) (c .in-Go .ensures tt) (c .operand-at-operand .ensures) in
+    let is = c .in-Go .ensures tt in
+    let h = facts-at code w i (c .args .operation) (Go (c .in-Go .branch)) x (c .pre .at) is (c .operand-at-operand .ensures) in
     let found = sound-at code w i (c .args .operation) (c .pre .at) .found in
     let fits = c .pre .fits in
     let long = w .operations-long in
@@ -163,7 +166,8 @@ returns-in-Go g c =
     let i = c .args .frame .now .place in
     let d = c .args .frame .now .depth in
     let x = c .operand-at-operand .result in
-    let h = facts-at code w i (c .args .operation) (Go (c .in-Go .branch)) x (c .pre .at) (c .in-Go .ensures tt) (c .operand-at-operand .ensures) in
+    let is = c .in-Go .ensures tt in
+    let h = facts-at code w i (c .args .operation) (Go (c .in-Go .branch)) x (c .pre .at) is (c .operand-at-operand .ensures) in
     let kind = g .Figure·Figures .kind in
     let means = g .Figure·Figures .means in
     let stack = c .args .stack .now in
@@ -176,12 +180,11 @@ returns-in-Go g c =
     let led : gone kind (code .operands) (c .in-Go .branch) x i (operands means d stack) ≡ gives (f .place, operands means (f .depth) stack) = sym (ap (λ ns. gone kind ns (c .in-Go .branch) x i (operands means d stack)) (c .operands .ensures)) ∙ e .work in
     let less = e .depth in
     let long = operands-length means stack (f .depth) (omega arith) in
-    let t : State (g .Figure·Figures .Value) = record { place = f .place; stack = operands means (f .depth) stack; memory = s .memory } in
     record {
       done =
-          performed-as kind code s (c .args .operation) (Go (c .in-Go .branch)) x (c .pre .at) (c .in-Go .ensures tt) (c .operand-at-operand .ensures) ∙ settled-goes kind code s _ t (go-effect kind code s (c .in-Go .branch) x _ _ led) (omega arith)
+          go-goes kind code s (c .args .operation) x (c .pre .at) (c .operand-at-operand .ensures) (c .in-Go .branch) is (f .place) (operands means (f .depth) stack) led (omega arith)
           ∙ ap (λ n. goes (record { place = f .place; stack = operands means (f .depth) stack; memory = memory means n (c .args .cells .now) (c .args .book .now) roll })) (sym (e .posted));
-      next = follows-branch kind code w fits (c .in-Go .branch) x h _ _ (f .place) (f .depth) led (e .depth);
+      next = follows-branch kind code w fits (c .in-Go .branch) x h (operands means d stack) (operands means (f .depth) stack) (f .place) (f .depth) led (e .depth);
     }
 
 pub sub-frame : need.sub-frame
@@ -191,7 +194,8 @@ sub-frame g c =
     let i = c .args .frame .now .place in
     let d = c .args .frame .now .depth in
     let x = c .operand-at-operand .result in
-    let h = facts-at code w i (c .args .operation) (Take (c .in-Take .is-rounded)) x (c .pre .at) (c .in-Take .ensures tt) (c .operand-at-operand .ensures) in
+    let is = c .in-Take .ensures tt in
+    let h = facts-at code w i (c .args .operation) (Take (c .in-Take .is-rounded)) x (c .pre .at) is (c .operand-at-operand .ensures) in
     let r = room code w (c .pre .fits) (h .0) in
     omega arith
 
@@ -202,7 +206,8 @@ figure-over-subscript-requires g c κs =
     let i = c .args .frame .now .place in
     let d = c .args .frame .now .depth in
     let x = c .operand-at-operand .result in
-    let h = facts-at code w i (c .args .operation) (Take (c .in-Take .is-rounded)) x (c .pre .at) (c .in-Take .ensures tt) (c .operand-at-operand .ensures) in
+    let is = c .in-Take .ensures tt in
+    let h = facts-at code w i (c .args .operation) (Take (c .in-Take .is-rounded)) x (c .pre .at) is (c .operand-at-operand .ensures) in
     let r = room code w (c .pre .fits) (h .0) in
     omega arith
 
@@ -213,7 +218,8 @@ take-into-requires g c κs =
     let i = c .args .frame .now .place in
     let d = c .args .frame .now .depth in
     let x = c .operand-at-operand .result in
-    let h = facts-at code w i (c .args .operation) (Take (c .in-Take .is-rounded)) x (c .pre .at) (c .in-Take .ensures tt) (c .operand-at-operand .ensures) in
+    let is = c .in-Take .ensures tt in
+    let h = facts-at code w i (c .args .operation) (Take (c .in-Take .is-rounded)) x (c .pre .at) is (c .operand-at-operand .ensures) in
     subst (λ (m : ℕ). Names-cells m (unpacked x)) (sym (c .pre .fits .wide)) (h .1)
 
 pub returns-in-Break-take-into : need.returns-in-Break-take-into
@@ -223,7 +229,8 @@ returns-in-Break-take-into g c =
     let i = c .args .frame .now .place in
     let d = c .args .frame .now .depth in
     let x = c .operand-at-operand .result in
-    let h = facts-at code w i (c .args .operation) (Take (c .in-Take .is-rounded)) x (c .pre .at) (c .in-Take .ensures tt) (c .operand-at-operand .ensures) in
+    let is = c .in-Take .ensures tt in
+    let h = facts-at code w i (c .args .operation) (Take (c .in-Take .is-rounded)) x (c .pre .at) is (c .operand-at-operand .ensures) in
     let kind = g .Figure·Figures .kind in
     let means = g .Figure·Figures .means in
     let stack = c .args .stack .now in
@@ -233,10 +240,11 @@ returns-in-Break-take-into g c =
     let top = top-at means stack d (omega arith) (c .figure-over-subscript .ensures) in
     let q = err-from-errBy (c .from-residual-in-Break-take-into .result) (c .from-residual-in-Break-take-into .ensures .1) in
     let e = c .in-Break-take-into .ensures tt in
+    let fault = fault-of (c .in-Break-take-into .field-0 .0) in
     rw (q .1, q .2) (record {
       done =
-          performed-as kind code s (c .args .operation) (Take (c .in-Take .is-rounded)) x (c .pre .at) (c .in-Take .ensures tt) (c .operand-at-operand .ensures) ∙ settled-fails kind code s _ _ (take-effect kind code s (c .in-Take .is-rounded) x _ _ _ top (e .work))
-          ∙ ap₂ (λ cells roll. faults (fault-of (c .in-Break-take-into .field-0 .0)) (memory means (c .args .frame .now .posted) cells (c .args .book .now) roll)) (sym (e .kept .0)) (sym (e .kept .1));
+          take-fails kind code s (c .args .operation) x (c .pre .at) (c .operand-at-operand .ensures) (c .in-Take .is-rounded) is (means (c .figure-over-subscript .result)) (operands means (d - 1) stack) top fault (e .work)
+          ∙ ap₂ (λ cells roll. faults fault (memory means (c .args .frame .now .posted) cells (c .args .book .now) roll)) (sym (e .kept .0)) (sym (e .kept .1));
       next = tt;
     })
 
@@ -247,7 +255,8 @@ returns-in-Continue-take-into g c =
     let i = c .args .frame .now .place in
     let d = c .args .frame .now .depth in
     let x = c .operand-at-operand .result in
-    let h = facts-at code w i (c .args .operation) (Take (c .in-Take .is-rounded)) x (c .pre .at) (c .in-Take .ensures tt) (c .operand-at-operand .ensures) in
+    let is = c .in-Take .ensures tt in
+    let h = facts-at code w i (c .args .operation) (Take (c .in-Take .is-rounded)) x (c .pre .at) is (c .operand-at-operand .ensures) in
     let kind = g .Figure·Figures .kind in
     let means = g .Figure·Figures .means in
     let stack = c .args .stack .now in
@@ -257,9 +266,8 @@ returns-in-Continue-take-into g c =
     let top = top-at means stack d (omega arith) (c .figure-over-subscript .ensures) in
     let e = c .in-Continue-take-into .ensures tt in
     let long = operands-length means stack (d - 1) (omega arith) in
-    let t : State (g .Figure·Figures .Value) = record { place = i + 1; stack = operands means (d - 1) stack; memory = memory means (c .args .frame .now .posted) (c .take-into .last .cells) (c .args .book .now) (g .R·Roll .holds (c .take-into .last .roll)) } in
     record {
-      done = performed-as kind code s (c .args .operation) (Take (c .in-Take .is-rounded)) x (c .pre .at) (c .in-Take .ensures tt) (c .operand-at-operand .ensures) ∙ settled-goes kind code s _ t (take-effect kind code s (c .in-Take .is-rounded) x _ _ _ top (e .work)) (omega arith);
+      done = take-goes kind code s (c .args .operation) x (c .pre .at) (c .operand-at-operand .ensures) (c .in-Take .is-rounded) is (means (c .figure-over-subscript .result)) (operands means (d - 1) stack) top (map means (c .take-into .last .cells)) (valued means (g .R·Roll .holds (c .take-into .last .roll))) (e .work) (omega arith);
       next = follows-on code w (c .pre .fits) (h .0) (d - 1) (omega arith);
     }
 
@@ -270,7 +278,8 @@ sub-frame-in-Post g c =
     let i = c .args .frame .now .place in
     let d = c .args .frame .now .depth in
     let x = c .operand-at-operand .result in
-    let h = facts-at code w i (c .args .operation) Post x (c .pre .at) (c .in-Post .ensures tt) (c .operand-at-operand .ensures) in
+    let is = c .in-Post .ensures tt in
+    let h = facts-at code w i (c .args .operation) Post x (c .pre .at) is (c .operand-at-operand .ensures) in
     let r = room code w (c .pre .fits) h in
     omega arith
 
@@ -281,7 +290,8 @@ figure-over-requires g c κs =
     let i = c .args .frame .now .place in
     let d = c .args .frame .now .depth in
     let x = c .operand-at-operand .result in
-    let h = facts-at code w i (c .args .operation) Post x (c .pre .at) (c .in-Post .ensures tt) (c .operand-at-operand .ensures) in
+    let is = c .in-Post .ensures tt in
+    let h = facts-at code w i (c .args .operation) Post x (c .pre .at) is (c .operand-at-operand .ensures) in
     let r = room code w (c .pre .fits) h in
     omega arith
 
@@ -292,7 +302,8 @@ returns-in-Break-post g c =
     let i = c .args .frame .now .place in
     let d = c .args .frame .now .depth in
     let x = c .operand-at-operand .result in
-    let h = facts-at code w i (c .args .operation) Post x (c .pre .at) (c .in-Post .ensures tt) (c .operand-at-operand .ensures) in
+    let is = c .in-Post .ensures tt in
+    let h = facts-at code w i (c .args .operation) Post x (c .pre .at) is (c .operand-at-operand .ensures) in
     let kind = g .Figure·Figures .kind in
     let means = g .Figure·Figures .means in
     let stack = c .args .stack .now in
@@ -302,10 +313,11 @@ returns-in-Break-post g c =
     let top = top-at means stack d (omega arith) (c .figure-over .ensures) in
     let q = err-from-errBy (c .from-residual-in-Break-post .result) (c .from-residual-in-Break-post .ensures .1) in
     let e = c .in-Break-post .ensures tt in
+    let fault = fault-of (c .in-Break-post .field-0 .0) in
     rw (q .1, q .2) (record {
       done =
-          performed-as kind code s (c .args .operation) Post x (c .pre .at) (c .in-Post .ensures tt) (c .operand-at-operand .ensures) ∙ settled-fails kind code s _ _ (post-effect kind code s x _ _ _ top (e .work))
-          ∙ ap (λ book. faults (fault-of (c .in-Break-post .field-0 .0)) (memory means (c .args .frame .now .posted) (c .args .cells .now) book roll)) (sym (e .kept));
+          post-fails kind code s (c .args .operation) x (c .pre .at) (c .operand-at-operand .ensures) is (means (c .figure-over .result)) (operands means (d - 1) stack) top fault (e .work)
+          ∙ ap (λ book. faults fault (memory means (c .args .frame .now .posted) (c .args .cells .now) book roll)) (sym (e .kept));
       next = tt;
     })
 
@@ -316,7 +328,8 @@ returns-in-Continue-post g c =
     let i = c .args .frame .now .place in
     let d = c .args .frame .now .depth in
     let x = c .operand-at-operand .result in
-    let h = facts-at code w i (c .args .operation) Post x (c .pre .at) (c .in-Post .ensures tt) (c .operand-at-operand .ensures) in
+    let is = c .in-Post .ensures tt in
+    let h = facts-at code w i (c .args .operation) Post x (c .pre .at) is (c .operand-at-operand .ensures) in
     let kind = g .Figure·Figures .kind in
     let means = g .Figure·Figures .means in
     let stack = c .args .stack .now in
@@ -326,9 +339,8 @@ returns-in-Continue-post g c =
     let top = top-at means stack d (omega arith) (c .figure-over .ensures) in
     let e = c .in-Continue-post .ensures tt in
     let long = operands-length means stack (d - 1) (omega arith) in
-    let t : State (g .Figure·Figures .Value) = record { place = i + 1; stack = operands means (d - 1) stack; memory = memory means (c .args .frame .now .posted + 1) (c .args .cells .now) (c .post .last .book) roll } in
     record {
-      done = performed-as kind code s (c .args .operation) Post x (c .pre .at) (c .in-Post .ensures tt) (c .operand-at-operand .ensures) ∙ settled-goes kind code s _ t (post-effect kind code s x _ _ _ top (e .work)) (omega arith);
+      done = post-goes kind code s (c .args .operation) x (c .pre .at) (c .operand-at-operand .ensures) is (means (c .figure-over .result)) (operands means (d - 1) stack) top (map means (c .post .last .book)) (e .work) (omega arith);
       next = follows-on code w (c .pre .fits) h (d - 1) (omega arith);
     }
 
@@ -339,7 +351,8 @@ returns-in-Pass g c =
     let i = c .args .frame .now .place in
     let d = c .args .frame .now .depth in
     let x = c .operand-at-operand .result in
-    let h = facts-at code w i (c .args .operation) Pass x (c .pre .at) (c .in-Pass .ensures tt) (c .operand-at-operand .ensures) in
+    let is = c .in-Pass .ensures tt in
+    let h = facts-at code w i (c .args .operation) Pass x (c .pre .at) is (c .operand-at-operand .ensures) in
     let kind = g .Figure·Figures .kind in
     let means = g .Figure·Figures .means in
     let stack = c .args .stack .now in
@@ -347,8 +360,7 @@ returns-in-Pass g c =
     let s = state means (c .args .frame .now) (c .args .cells .now) stack (c .args .book .now) roll in
     let r = room code w (c .pre .fits) h in
     let long = operands-length means stack d (omega arith) in
-    let t : State (g .Figure·Figures .Value) = record { place = i + 1; stack = operands means d stack; memory = s .memory } in
     record {
-      done = performed-as kind code s (c .args .operation) Pass x (c .pre .at) (c .in-Pass .ensures tt) (c .operand-at-operand .ensures) ∙ settled-goes kind code s _ t refl (omega arith);
+      done = pass-goes kind code s (c .args .operation) x (c .pre .at) (c .operand-at-operand .ensures) is (omega arith);
       next = follows-on code w (c .pre .fits) h d (omega arith);
     }
