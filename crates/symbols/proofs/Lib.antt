@@ -7,3 +7,4 @@ pub mod Types
 pub mod Bounds
 pub mod Labels
 pub mod Jumps
+pub mod InText

@@ -9,3 +9,4 @@ pub mod Examples
 pub mod Laws
 pub mod Typing
 pub mod ForsAround
+pub mod TextOrder

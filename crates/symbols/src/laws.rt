@@ -2,11 +2,19 @@
 
 ghost use Rattle.symbols.specs.Laws.{Verdict-law, Table-law, Enough-cells, Bounds-law, Names-law};
 ghost use Rattle.symbols.specs.ForsAround.{Jumps-law};
+ghost use Rattle.symbols.specs.TextOrder.{Text-order};
 ghost use Rattle.symbols.specs.Typing.{Types-law};
 
 // A tree is accepted only if it keeps all rules, and refused for the least that it breaks, at its earliest place.
 pub fn verdict_law_holds() -> u8
     ensures { λ _. ⌜ Verdict-law ⌝ }
+{
+    0
+}
+
+// The occurrences of a sentence's tree are the names among its words, in their order.
+pub fn occurrences_in_text_order() -> u8
+    ensures { λ _. ⌜ Text-order ⌝ }
 {
     0
 }

@@ -1,0 +1,5 @@
+// The rules on names, types, jumps, bounds and cells, tested over the records of a syntax tree.
+
+pub mod bounds;
+mod earliest;
+mod tree;
