@@ -9,13 +9,8 @@ use lib.Dec.{eqb, leb}
 use lib.ListN.{length}
 use Rattle.std.specs.declared.option.Option.the-variants.{Some, None}
 use Rattle.std.proofs.shelf.Tests.{and-from, and-left, and-parts, and-right, cond-false, eqb-true, leb-true, lt-leb, ne-eqb, not-true}
-use Rattle.rolls.specs.Lines.{File, all-digits, digits-value, file-of, is-digit, is-magnitude, magnitude, onto, onto-first}
+use Rattle.rolls.specs.Lines.{File, all-digits, digits-value, file-of, is-digit, is-magnitude, magnitude, no-end, onto, onto-first}
 use Rattle.rolls.specs.Text.{first-magnitude}
-
--- No byte ends a line.
-abbrev pub no-end : List ℕ → Bool
-no-end [] = true
-no-end (b ∷ bytes) = not (eqb b 10) && no-end bytes
 
 -- One byte more that ends no line.
 pub not-end : (b : ℕ) → eqb b 10 ≡ false → (bytes : List ℕ) → no-end bytes ≡ true → no-end (b ∷ bytes) ≡ true

@@ -17,7 +17,7 @@ use Rattle.rolls.specs.Lines.{File, all-digits, before, digits-value, file-of,
 use Rattle.rolls.specs.Text.{Magnitude-line, first-magnitude}
 
 abbrev read-file : ℕ → File → Contents ℤ
-read-file place f = read-lines place (f .lines) (f .unended)
+read-file place f = read-lines line-figure place (f .lines) (f .unended)
 
 abbrev damaged : ℕ → Contents ℤ
 damaged place = record { figures = []; ending = damaged-at place }
@@ -43,7 +43,7 @@ magnitude-figure (b ∷ bytes) n writes =
 minus-damaged : (place : ℕ) (lines : List (List ℕ)) (unended : List ℕ) → first-magnitude lines ≡ None → read-file place (onto-first 45 lines unended) ≡ damaged place
 minus-damaged place [] unended none = refl
 minus-damaged place (line ∷ lines) unended none =
-    ap (λ m. before place (with-sign (λ n. negℤ (pos n)) m) (read-lines (place + suc (length line) + 1) lines unended)) none
+    ap (λ m. before place (with-sign (λ n. negℤ (pos n)) m) (read-lines line-figure (place + suc (length line) + 1) lines unended)) none
 
 -- A line that begins with another byte than a minus sign, and writes no magnitude, is damage.
 plain-damaged : (place b : ℕ) (f : File) → eqb b 45 ≡ false → first-magnitude (onto b f .lines) ≡ None → read-file place (onto b f) ≡ damaged place
@@ -59,7 +59,7 @@ plain-damaged place b f plain none =
     onto-first-damaged : (lines : List (List ℕ)) → first-magnitude (onto-first b lines (f .unended) .lines) ≡ None → read-file place (onto-first b lines (f .unended)) ≡ damaged place
     onto-first-damaged [] h = refl
     onto-first-damaged (line ∷ lines) h =
-        ap (λ m. before place m (read-lines (place + suc (length line) + 1) lines (f .unended)))
+        ap (λ m. before place m (read-lines line-figure (place + suc (length line) + 1) lines (f .unended)))
         (cond-false (eqb b 45) (with-sign (λ m. negℤ (pos m)) (magnitude line)) (with-sign pos (magnitude (b ∷ line))) plain ∙ ap (with-sign pos) h)
 
 module _ (bytes : List ℕ) (start : ℕ) (inside : start < length bytes) where
@@ -82,7 +82,7 @@ module _ (bytes : List ℕ) (start : ℕ) (inside : start < length bytes) where
         let later = file-of (m .rest) in
         let place : start + suc (length line) + 1 ≡ next = let is = m .next-is in omega arith in
         ap (read-file start) (begins-minus ∙ ap (λ f. onto-first 45 (f .lines) (f .unended)) (m .cut))
-        ∙ ap₂ (λ w k. before start (with-sign (λ i. negℤ (pos i)) w) (read-lines k (later .lines) (later .unended))) (m .writes) place
+        ∙ ap₂ (λ w k. before start (with-sign (λ i. negℤ (pos i)) w) (read-lines line-figure k (later .lines) (later .unended))) (m .writes) place
         ∙ ap (λ bs. before start (Some (negℤ (pos n))) (read-from next bs)) (m .rest-is)
 
   module _ (plain : getD bytes start 0 ≡ 45 → ⊥) where
@@ -96,5 +96,5 @@ module _ (bytes : List ℕ) (start : ℕ) (inside : start < length bytes) where
       let line = m .line in
       let later = file-of (m .rest) in
       ap (read-file start) (m .cut)
-      ∙ ap₂ (λ w k. before start w (read-lines k (later .lines) (later .unended))) (magnitude-figure line n (m .writes)) (sym (m .next-is))
+      ∙ ap₂ (λ w k. before start w (read-lines line-figure k (later .lines) (later .unended))) (magnitude-figure line n (m .writes)) (sym (m .next-is))
       ∙ ap (λ bs. before start (Some (pos n)) (read-from next bs)) (m .rest-is)

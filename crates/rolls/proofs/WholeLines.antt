@@ -13,8 +13,8 @@ use Rattle.std.specs.declared.option.Option.{Option}
 use Rattle.std.specs.declared.option.Option.the-variants.{Some, None}
 use Rattle.std.proofs.shelf.Tests.{and-from, and-parts, cases-bool, cond-false, cond-true, eqb-true, leb-true, ne-eqb}
 use Rattle.rolls.specs.Contents.{Contents, all-of, damaged-at, ends}
-use Rattle.rolls.specs.Lines.{File, all-digits, before, digits-value, file-of, is-digit, is-magnitude, line-figure, magnitude, onto, onto-first, read-from, read-lines, with-sign}
-use Rattle.rolls.proofs.FirstLine.{digits-no-end, no-end, not-end}
+use Rattle.rolls.specs.Lines.{File, all-digits, before, digits-value, file-of, is-digit, is-magnitude, magnitude, no-end, onto, onto-first, read-as, read-lines, signed-line, with-sign}
+use Rattle.rolls.proofs.FirstLine.{digits-no-end, not-end}
 use Rattle.rolls.specs.Reading.{Ends-at, No-figure-line, Reading, at-damage, at-end, with-ends}
 
 -- A file's lines and the rest behind them have no byte 10 inside.
@@ -80,7 +80,7 @@ no-row (a ∷ cs) (b ∷ bs) ys p e =
     no-row cs bs ys (and-parts (not (eqb a 10)) (no-end cs) p .1) tails
 
 -- A line with a magnitude has no byte 10 inside.
-magnitude-no-end : (ds : List ℕ) (n : ℕ) → magnitude ds ≡ Some n → no-end ds ≡ true
+pub magnitude-no-end : (ds : List ℕ) (n : ℕ) → magnitude ds ≡ Some n → no-end ds ≡ true
 magnitude-no-end ds n writes =
     ⊎-elim
     (λ (passes : is-magnitude ds ≡ true). digits-no-end ds (and-parts (all-digits ds) _ passes .0))
@@ -95,20 +95,20 @@ sign-some : (sign : ℕ → ℤ) (m : Option ℕ) (z : ℤ) → with-sign sign m
 sign-some sign (Some n) z h = (n, refl)
 sign-some sign None z h = let y : _≡_ {A = ℕ} 0 1 = cc in absurd (omega arith)
 
--- A line that holds a figure has no byte 10 inside.
-pub figure-no-end : (line : List ℕ) (z : ℤ) → line-figure line ≡ Some z → no-end line ≡ true
-figure-no-end [] z holds = refl
-figure-no-end (b ∷ bytes) z holds =
+-- A line that holds a figure has no byte 10 inside, where what writes a number has none.
+pub figure-no-end : (writes : List ℕ → Option ℕ) → ((ds : List ℕ) (n : ℕ) → writes ds ≡ Some n → no-end ds ≡ true) → (line : List ℕ) (z : ℤ) → signed-line writes line ≡ Some z → no-end line ≡ true
+figure-no-end writes number-no-end [] z holds = refl
+figure-no-end writes number-no-end (b ∷ bytes) z holds =
     ⊎-elim
     (λ (minus : eqb b 45 ≡ true).
-    let signed = sym (cond-true (eqb b 45) (with-sign (λ n. negℤ (pos n)) (magnitude bytes)) (with-sign pos (magnitude (b ∷ bytes))) minus) ∙ holds in
-    let found = sign-some (λ n. negℤ (pos n)) (magnitude bytes) z signed in
+    let signed = sym (cond-true (eqb b 45) (with-sign (λ n. negℤ (pos n)) (writes bytes)) (with-sign pos (writes (b ∷ bytes))) minus) ∙ holds in
+    let found = sign-some (λ n. negℤ (pos n)) (writes bytes) z signed in
     let is : b ≡ 45 = eqb-true b 45 minus in
-    not-end b (ne-eqb b 10 (λ e. omega arith)) bytes (magnitude-no-end bytes (found .0) (found .1)))
+    not-end b (ne-eqb b 10 (λ e. omega arith)) bytes (number-no-end bytes (found .0) (found .1)))
     (λ (plain : eqb b 45 ≡ false).
-    let unsigned = sym (cond-false (eqb b 45) (with-sign (λ n. negℤ (pos n)) (magnitude bytes)) (with-sign pos (magnitude (b ∷ bytes))) plain) ∙ holds in
-    let found = sign-some pos (magnitude (b ∷ bytes)) z unsigned in
-    magnitude-no-end (b ∷ bytes) (found .0) (found .1))
+    let unsigned = sym (cond-false (eqb b 45) (with-sign (λ n. negℤ (pos n)) (writes bytes)) (with-sign pos (writes (b ∷ bytes))) plain) ∙ holds in
+    let found = sign-some pos (writes (b ∷ bytes)) z unsigned in
+    number-no-end (b ∷ bytes) (found .0) (found .1))
     (cases-bool (eqb b 45))
 
 abbrev Some-or-none : Option ℤ → Type 0
@@ -118,72 +118,74 @@ some-or-none : (m : Option ℤ) → Some-or-none m
 some-or-none (Some z) = inl (z, refl)
 some-or-none None = inr refl
 
--- Damage stands at a byte.
-some-bytes : (place : ℕ) (row more : List ℕ) → No-figure-line (row ++ 10 ∷ more) → Ends-at place (row ++ 10 ∷ more) (damaged-at place)
-some-bytes place [] more h = at-damage h
-some-bytes place (b ∷ row) more h = at-damage h
+-- Reading by a function that says which figure a line holds, and for which no such line has a byte 10 inside.
+module _ (figure : List ℕ → Option ℤ) (inside-lines : (line : List ℕ) (z : ℤ) → figure line ≡ Some z → no-end line ≡ true) where
+  -- Damage stands at a byte.
+  some-bytes : (place : ℕ) (row more : List ℕ) → No-figure-line figure (row ++ 10 ∷ more) → Ends-at figure place (row ++ 10 ∷ more) (damaged-at place)
+  some-bytes place [] more h = at-damage h
+  some-bytes place (b ∷ row) more h = at-damage h
 
-module _ (place : ℕ) (line : List ℕ) (lines : List (List ℕ)) (unended : List ℕ) where
-  abbrev later : Contents ℤ
-  later = read-lines (place + length line + 1) lines unended
+  module _ (place : ℕ) (line : List ℕ) (lines : List (List ℕ)) (unended : List ℕ) where
+    abbrev later : Contents ℤ
+    later = read-lines figure (place + length line + 1) lines unended
 
-  -- A line that holds a figure, before lines that are read.
-  figure-first : (z : ℤ) → line-figure line ≡ Some z → Reading (place + length line + 1) (with-ends lines ++ unended) later → Reading place (with-ends (line ∷ lines) ++ unended) (before place (line-figure line) later)
-  figure-first z figure r =
-      let whole : length (line ++ 10 ∷ with-ends (r .lines)) ≡ length line + suc (length (with-ends (r .lines))) = length-append line (10 ∷ with-ends (r .lines)) in
-      let there : place + length line + 1 + length (with-ends (r .lines)) ≡ place + length (line ++ 10 ∷ with-ends (r .lines)) = omega arith in
-      subst (λ m. Reading place (with-ends (line ∷ lines) ++ unended) (before place m later)) (sym figure)
-      (record {
-        lines = line ∷ r .lines;
-        rest = r .rest;
-        parts =
-            append-assoc line (10 ∷ with-ends lines) unended ∙ ap (λ bs. line ++ 10 ∷ bs) (r .parts)
-            ∙ sym (append-assoc line (10 ∷ with-ends (r .lines)) (r .rest));
-        holds = ap₂ _∷_ figure (r .holds);
-        stops = subst (λ p. Ends-at p (r .rest) (later .ending)) there (r .stops);
-      })
+    -- A line that holds a figure, before lines that are read.
+    figure-first : (z : ℤ) → figure line ≡ Some z → Reading figure (place + length line + 1) (with-ends lines ++ unended) later → Reading figure place (with-ends (line ∷ lines) ++ unended) (before place (figure line) later)
+    figure-first z is r =
+        let whole : length (line ++ 10 ∷ with-ends (r .lines)) ≡ length line + suc (length (with-ends (r .lines))) = length-append line (10 ∷ with-ends (r .lines)) in
+        let there : place + length line + 1 + length (with-ends (r .lines)) ≡ place + length (line ++ 10 ∷ with-ends (r .lines)) = omega arith in
+        subst (λ m. Reading figure place (with-ends (line ∷ lines) ++ unended) (before place m later)) (sym is)
+        (record {
+          lines = line ∷ r .lines;
+          rest = r .rest;
+          parts =
+              append-assoc line (10 ∷ with-ends lines) unended ∙ ap (λ bs. line ++ 10 ∷ bs) (r .parts)
+              ∙ sym (append-assoc line (10 ∷ with-ends (r .lines)) (r .rest));
+          holds = ap₂ _∷_ is (r .holds);
+          stops = subst (λ p. Ends-at figure p (r .rest) (later .ending)) there (r .stops);
+        })
 
-  -- A line that holds none.
-  damage-first : no-end line ≡ true → line-figure line ≡ None → Reading place (with-ends (line ∷ lines) ++ unended) (before place (line-figure line) later)
-  damage-first inside none =
-      let bytes = line ++ 10 ∷ (with-ends lines ++ unended) in
+    -- A line that holds none.
+    damage-first : no-end line ≡ true → figure line ≡ None → Reading figure place (with-ends (line ∷ lines) ++ unended) (before place (figure line) later)
+    damage-first inside none =
+        let bytes = line ++ 10 ∷ (with-ends lines ++ unended) in
+        let here : place + 0 ≡ place = omega arith in
+        subst (λ m. Reading figure place (with-ends (line ∷ lines) ++ unended) (before place m later)) (sym none)
+        (record {
+          lines = [];
+          rest = bytes;
+          parts = append-assoc line (10 ∷ with-ends lines) unended;
+          holds = refl;
+          stops = subst (λ p. Ends-at figure p bytes (damaged-at place)) (sym here)
+              (some-bytes place line (with-ends lines ++ unended)
+              (λ row more z e holds.
+              let same = same-row line row (with-ends lines ++ unended) more inside (inside-lines row z holds) e in
+              let y : _≡_ {A = ℕ} 0 1 = cc (ap figure same) in
+              omega arith));
+        })
+
+  -- Lines that are read one after the other are read as whole lines say.
+  lines-read : (place : ℕ) (lines : List (List ℕ)) (unended : List ℕ) → No-ends lines → no-end unended ≡ true → Reading figure place (with-ends lines ++ unended) (read-lines figure place lines unended)
+  lines-read place [] [] inside rest = record { lines = []; rest = []; parts = refl; holds = refl; stops = at-end }
+  lines-read place [] (b ∷ bytes) inside rest =
       let here : place + 0 ≡ place = omega arith in
-      subst (λ m. Reading place (with-ends (line ∷ lines) ++ unended) (before place m later)) (sym none)
-      (record {
+      record {
         lines = [];
-        rest = bytes;
-        parts = append-assoc line (10 ∷ with-ends lines) unended;
+        rest = b ∷ bytes;
+        parts = refl;
         holds = refl;
-        stops = subst (λ p. Ends-at p bytes (damaged-at place)) (sym here)
-            (some-bytes place line (with-ends lines ++ unended)
-            (λ row more z e figure.
-            let same = same-row line row (with-ends lines ++ unended) more inside (figure-no-end row z figure) e in
-            let y : _≡_ {A = ℕ} 0 1 = cc (ap line-figure same) in
-            omega arith));
-      })
+        stops = subst (λ p. Ends-at figure p (b ∷ bytes) (damaged-at place)) (sym here) (at-damage (λ line later z e h. no-row (b ∷ bytes) line later rest e));
+      }
+  lines-read place (line ∷ lines) unended inside rest =
+      ⊎-elim
+      (λ (some : (z : ℤ) × (figure line ≡ Some z)).
+      figure-first place line lines unended (some .0) (some .1) (lines-read (place + length line + 1) lines unended (inside .1) rest))
+      (λ (none : figure line ≡ None). damage-first place line lines unended (inside .0) none)
+      (some-or-none (figure line))
 
--- Lines that are read one after the other are read as whole lines say.
-lines-read : (place : ℕ) (lines : List (List ℕ)) (unended : List ℕ) → No-ends lines → no-end unended ≡ true → Reading place (with-ends lines ++ unended) (read-lines place lines unended)
-lines-read place [] [] inside rest = record { lines = []; rest = []; parts = refl; holds = refl; stops = at-end }
-lines-read place [] (b ∷ bytes) inside rest =
-    let here : place + 0 ≡ place = omega arith in
-    record {
-      lines = [];
-      rest = b ∷ bytes;
-      parts = refl;
-      holds = refl;
-      stops = subst (λ p. Ends-at p (b ∷ bytes) (damaged-at place)) (sym here) (at-damage (λ line later z e h. no-row (b ∷ bytes) line later rest e));
-    }
-lines-read place (line ∷ lines) unended inside rest =
-    ⊎-elim
-    (λ (some : (z : ℤ) × (line-figure line ≡ Some z)).
-    figure-first place line lines unended (some .0) (some .1) (lines-read (place + length line + 1) lines unended (inside .1) rest))
-    (λ (none : line-figure line ≡ None). damage-first place line lines unended (inside .0) none)
-    (some-or-none (line-figure line))
-
--- Every file is read as its lines say.
-pub reading : (bytes : List ℕ) → Reading 0 bytes (read-from 0 bytes)
-reading bytes =
-    let f = file-of bytes in
-    let h = cut-up bytes in
-    subst (λ bs. Reading 0 bs (read-from 0 bytes)) (sym (h .parts)) (lines-read 0 (f .lines) (f .unended) (h .inside) (h .rest))
+  -- Every file is read as its lines say.
+  pub reading : (bytes : List ℕ) → Reading figure 0 bytes (read-as figure 0 bytes)
+  reading bytes =
+      let f = file-of bytes in
+      let h = cut-up bytes in
+      subst (λ bs. Reading figure 0 bs (read-as figure 0 bytes)) (sym (h .parts)) (lines-read 0 (f .lines) (f .unended) (h .inside) (h .rest))

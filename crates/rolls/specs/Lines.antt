@@ -1,7 +1,7 @@
--- The roll file: whole figures, one a line. A line is an optional minus sign and 1 to 10 digits with a value within
--- ±2,000,000,000, ended by byte 10. The first line that is none of these, or has no end, damages the roll from its first
--- byte on.
-use mathlib.Core.Bool.{Bool, true, false, cond, _&&_}
+-- Roll files: figures, one a line, each line ended by byte 10. The first line that holds no figure, or has no end, damages
+-- the roll from its first byte on. What a line holds is a matter of the kind: for whole figures it is an optional minus
+-- sign and 1 to 10 digits with a value within ±2,000,000,000.
+use mathlib.Core.Bool.{Bool, true, false, cond, not, _&&_}
 use mathlib.Core.List.{List, [], _∷_, _++_, map}
 use Prim.Native.Nat.{ℕ, _+_, _-_, _*_}
 use lib.Dec.{eqb, leb}
@@ -28,6 +28,11 @@ abbrev pub file-of : List ℕ → File
 file-of [] = record { lines = []; unended = [] }
 file-of (b ∷ bytes) = onto b (file-of bytes)
 
+-- Bytes none of which ends a line.
+abbrev pub no-end : List ℕ → Bool
+no-end [] = true
+no-end (b ∷ bytes) = not (eqb b 10) && no-end bytes
+
 -- The digits are the bytes 48 to 57.
 abbrev pub is-digit : ℕ → Bool
 is-digit b = leb 48 b && leb b 57
@@ -52,27 +57,37 @@ abbrev pub with-sign : (ℕ → ℤ) → Option ℕ → Option ℤ
 with-sign sign (Some n) = Some (sign n)
 with-sign sign None = None
 
--- The figure that a line holds; byte 45 is the minus sign.
+-- What a line holds whose bytes without the sign write a number; byte 45 is the minus sign.
+abbrev pub signed-line : (List ℕ → Option ℕ) → List ℕ → Option ℤ
+signed-line writes [] = None
+signed-line writes (b ∷ bytes) =
+    cond (eqb b 45) (with-sign (λ n. negℤ (pos n)) (writes bytes)) (with-sign pos (writes (b ∷ bytes)))
+
+-- The whole figure that a line holds.
 abbrev pub line-figure : List ℕ → Option ℤ
-line-figure [] = None
-line-figure (b ∷ bytes) =
-    cond (eqb b 45) (with-sign (λ n. negℤ (pos n)) (magnitude bytes)) (with-sign pos (magnitude (b ∷ bytes)))
+line-figure = signed-line magnitude
 
 -- A line's figure goes before what the later lines hold; a line without one is damage.
 abbrev pub before : ℕ → Option ℤ → Contents ℤ → Contents ℤ
 before place (Some z) later = record { figures = z ∷ later .figures; ending = later .ending }
 before place None later = record { figures = []; ending = damaged-at place }
 
--- What lines hold, the first of which begins at a place; after the last one nothing may stand.
+-- After the last line nothing may stand.
 abbrev pub read-unended : ℕ → List ℕ → Contents ℤ
 read-unended place [] = record { figures = []; ending = ends }
 read-unended place (b ∷ bytes) = record { figures = []; ending = damaged-at place }
 
-abbrev pub read-lines : ℕ → List (List ℕ) → List ℕ → Contents ℤ
-read-lines place [] unended = read-unended place unended
-read-lines place (line ∷ lines) unended =
-    before place (line-figure line) (read-lines (place + length line + 1) lines unended)
+module _ (figure : List ℕ → Option ℤ) where
+  -- What lines hold, the first of which begins at a place, where `figure` says what one line holds.
+  abbrev pub read-lines : ℕ → List (List ℕ) → List ℕ → Contents ℤ
+  read-lines place [] unended = read-unended place unended
+  read-lines place (line ∷ lines) unended =
+      before place (figure line) (read-lines (place + length line + 1) lines unended)
 
--- What the bytes from a place on hold.
+  -- What the bytes from a place on hold.
+  abbrev pub read-as : ℕ → List ℕ → Contents ℤ
+  read-as place bytes = read-lines place (file-of bytes .lines) (file-of bytes .unended)
+
+-- What the bytes from a place on hold in whole figures.
 abbrev pub read-from : ℕ → List ℕ → Contents ℤ
-read-from place bytes = read-lines place (file-of bytes .lines) (file-of bytes .unended)
+read-from = read-as line-figure

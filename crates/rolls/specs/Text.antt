@@ -11,7 +11,7 @@ use Rattle.figures.specs.declared.whole.Whole.{Whole}
 use Rattle.rolls.specs.declared.text.Line.{Line}
 use Rattle.rolls.specs.Contents.{Contents, damaged-at}
 use Rattle.rolls.specs.declared.text.Magnitude.{Magnitude}
-use Rattle.rolls.specs.Lines.{all-digits, digits-value, file-of, is-digit, magnitude, read-from}
+use Rattle.rolls.specs.Lines.{all-digits, digits-value, file-of, is-digit, magnitude, read-as, read-from}
 
 abbrev pub whole-figure : ℤ → Whole
 whole-figure z = record { units = z }
@@ -24,12 +24,12 @@ abbrev pub text-from : List ℕ → ℕ → Contents Whole
 text-from bytes place = whole-figures (read-from place (drop place bytes))
 
 -- What the bytes hold, by the answer of a look at their first line: its figure and then what follows, or damage.
-abbrev pub by-line : List ℕ → ℕ → Option Line → Contents ℤ
-by-line bytes place (Some line) = record {
-  figures = line .figure ∷ read-from (line .next) (drop (line .next) bytes) .figures;
-  ending = read-from (line .next) (drop (line .next) bytes) .ending;
+abbrev pub by-line : (List ℕ → Option ℤ) → List ℕ → ℕ → Option Line → Contents ℤ
+by-line figure bytes place (Some line) = record {
+  figures = line .figure ∷ read-as figure (line .next) (drop (line .next) bytes) .figures;
+  ending = read-as figure (line .next) (drop (line .next) bytes) .ending;
 }
-by-line bytes place None = record { figures = []; ending = damaged-at place }
+by-line figure bytes place None = record { figures = []; ending = damaged-at place }
 
 -- The digits from a place on, as many as there are but at most ten.
 pub record Digits-read (bytes : List ℕ) (start value end : ℕ) : Type 0 where

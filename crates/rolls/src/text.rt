@@ -5,8 +5,9 @@ ghost use mathlib.Core.Path.{_≡_};
 ghost use Prim.Native.Nat.{_+_, _<_, _≤_};
 ghost use lib.ListN.{length, drop};
 ghost use denote.Ref.{now};
-ghost use Rattle.rolls.specs.Lines.{read-from};
+ghost use Rattle.rolls.specs.Lines.{line-figure, read-from};
 ghost use Rattle.rolls.specs.Reading.{Reading, Reads-back};
+ghost use Rattle.std.specs.Written.{signed};
 ghost use Rattle.rolls.specs.Text.{Digits-read, Magnitude-read, by-line, text-from, whole-figures};
 use crate::roll::Ending;
 use crate::roll::Roll;
@@ -23,16 +24,16 @@ pub struct TextRoll<'a> {
 // A line that holds a figure, and the place of the line after it.
 #[derive(Clone, Copy)]
 pub struct Line {
-    figure: i32,
-    next: usize,
+    pub figure: i32,
+    pub next: usize,
 }
 
 impl<'a> TextRoll<'a> {
     // The roll of all lines of a file.
     pub fn new(bytes: &'a [u8]) -> TextRoll<'a>
         ensures value { λ r. ⌜ text-from (now (r .bytes)) (r .at) ≡ whole-figures (read-from 0 (now (bytes .entry))) ⌝ }
-        ensures read_back { λ _. ⌜ Reads-back (now (bytes .entry)) ⌝ }
-        ensures lines { λ _. ⌜ Reading 0 (now (bytes .entry)) (read-from 0 (now (bytes .entry))) ⌝ }
+        ensures read_back { λ _. ⌜ Reads-back line-figure signed (now (bytes .entry)) ⌝ }
+        ensures lines { λ _. ⌜ Reading line-figure 0 (now (bytes .entry)) (read-from 0 (now (bytes .entry))) ⌝ }
     {
         TextRoll { bytes, at: 0 }
     }
@@ -100,7 +101,7 @@ fn read_magnitude(bytes: &[u8], start: usize) -> Option<Magnitude>
 // The figure of the line that begins at `start`.
 fn read_line(bytes: &[u8], start: usize) -> Option<Line>
     requires { ⌜ start < length (now bytes) ⌝ }
-    ensures { λ r. ⌜ by-line (now (bytes .entry)) start r ≡ read-from start (drop start (now (bytes .entry))) ⌝ }
+    ensures { λ r. ⌜ by-line line-figure (now (bytes .entry)) start r ≡ read-from start (drop start (now (bytes .entry))) ⌝ }
 {
     if bytes[start] == b'-' {
         let m = read_magnitude(bytes, start + 1)?;

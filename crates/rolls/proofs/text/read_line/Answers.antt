@@ -7,7 +7,7 @@ use mir.Syntax.{w32}
 use mir.Val.{toZ, ofZ}
 use Rattle.std.proofs.shelf.Signed.{ints}
 use Rattle.std.specs.declared.option.Option.the-variants.{Some}
-use Rattle.rolls.specs.Lines.{before, read-from}
+use Rattle.rolls.specs.Lines.{before, line-figure, read-from}
 use Rattle.rolls.specs.Text.{by-line}
 use Rattle.rolls.proofs.Signs.{minus-found, minus-none, plain-none}
 use Rattle.rolls.proofs.text.read_line.Needs as need
@@ -15,7 +15,7 @@ use Rattle.rolls.proofs.text.read_line.Needs as need
 pub returns-in-Break-m : need.returns-in-Break-m
 returns-in-Break-m c =
     let none = minus-none (c .args .bytes .now) (c .args .start) (c .pre) (c .if-bytes-start-eq45 .taken) (c .in-Break-m .ensures tt) in
-    ap (by-line (c .args .bytes .now) (c .args .start)) (c .from-residual .ensures) ∙ sym none
+    ap (by-line line-figure (c .args .bytes .now) (c .args .start)) (c .from-residual .ensures) ∙ sym none
 
 pub returns-then-bytes-start-eq45 : need.returns-then-bytes-start-eq45
 returns-then-bytes-start-eq45 c =
@@ -30,4 +30,4 @@ returns-then-bytes-start-eq45 c =
 pub returns-in-Break-m-2 : need.returns-in-Break-m-2
 returns-in-Break-m-2 c =
     let none = plain-none (c .args .bytes .now) (c .args .start) (c .pre) (c .if-bytes-start-eq45 .left) (c .in-Break-m-2 .ensures tt) in
-    ap (by-line (c .args .bytes .now) (c .args .start)) (c .from-residual-in-Break-m-2 .ensures) ∙ sym none
+    ap (by-line line-figure (c .args .bytes .now) (c .args .start)) (c .from-residual-in-Break-m-2 .ensures) ∙ sym none
