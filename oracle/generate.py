@@ -1,6 +1,6 @@
 #!/usr/bin/env python3
-"""generate.py SEED COUNT [FOLDER]: random texts and rolls with what comes of them, a line of JSON each. About a third are
-damaged on purpose, so that refusals are tried too. With a folder, each trial is also written there as NNNN.ial, NNNN.roll
+"""generate.py SEED COUNT [FOLDER]: random texts and rolls with what comes of them, a line of JSON each. Some are damaged or
+given an offence on purpose, so that refusals are tried too. With a folder, each trial is also written there as NNNN.ial, NNNN.roll
 and NNNN.json."""
 
 import json
@@ -161,11 +161,27 @@ def damaged(text, r):
     return " ".join(parts)
 
 
+def offended(text, r):
+    """The text with one more item, that offends against a rule or comes near to it."""
+    deep = r.randint(29, 33)
+    item = r.choice(["integer(x)", "boolean(x)", "integer(l1)", "boolean(s1)", "l1: stop", "l4: stop", "x: stop", "x := a", "a := 1", "x[1] := 1",
+                     "x := l1", "x := p", "p := x", "p := 1", "p := 01", "p := +1", "p := 2", "x := (y > 1)", "print((1))", "print((p))", "if x; stop",
+                     "go to x", "go to l4", "go to s1", "go to l1[1]", "switch s3 := (x)", "switch s1 := (l1)", "in =: (p)", "for p := 1; stop",
+                     "for i := 1; begin l9: stop end; go to l9", "for i := 1; begin l9: go to l8; for j := 1; begin l8: stop end end",
+                     "array(c[2:1])", "array(c[-9999:-9999])", "array(c[0:10000])", "array(c[-10000:0])", "array(c[1:2026])", "array(c[1:2030])",
+                     "array(c, d[1:1020])", "x := " + "(" * deep + "1" + ")" * deep, "if (1 = " + "(" * deep + "1" + ")" * deep + "); stop",
+                     "comment " + "z" * 8000, "x := " + "+".join(["1"] * r.randint(120, 260))])
+    return f"{item}; {text}" if r.random() < 0.5 else f"{text}; {item}"
+
+
 def trial(seed):
     r = random.Random(seed)
     text = Texts(r).text()
-    if r.random() < 0.33:
+    chance = r.random()
+    if chance < 0.2:
         text = damaged(text, r)
+    elif chance < 0.4:
+        text = offended(text, r)
     roll = b"".join(b"%d\n" % r.choice([0, 1, 2, 3, -4, 10, 250, -2000000000, 2000000000]) for _ in range(r.randint(0, 12)))
     if r.random() < 0.2:
         roll += r.choice([b"x\n", b"12", b"2000000001\n", b"-\n", b"\n"])

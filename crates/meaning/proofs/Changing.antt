@@ -10,13 +10,13 @@ use lib.Dec.{ltb}
 use lib.IntN.{ℤ, pos, negsuc, _-ℤ_}
 use lib.ListN.{length, length-append}
 use Rattle.std.specs.declared.option.Option.{Option}
-use Rattle.grammar.specs.Tree.{Name, Variable, whole, indexed, progression, Statement}
+use Rattle.grammar.specs.Tree.{Name, Exp, Variable, whole, indexed, progression, Statement}
 use Rattle.figures.specs.Kinds.{Kind, Outcome, value, refused}
 use Rattle.rolls.specs.Contents.{How-it-ends, ends, damaged-at, Taken, took, refused as roll-refused, refused-at, first-of, rest-of, first as first-figure}
 use Rattle.meaning.specs.Names.{Names}
-use Rattle.meaning.specs.Expressions.{and-then, both, is-true, as-stored, at-distance, cell-of, subscripted-cell}
+use Rattle.meaning.specs.Expressions.{and-then, is-true, as-stored, at-distance, subscripted-cell}
 use Rattle.meaning.specs.Positions.{Loop, Position, end, at-assignment, at-go, at-switch, at-if, at-input, at-print, at-stop, at-element, at-addition, at-test, turn, enter, leave, next-print, destination}
-use Rattle.meaning.specs.Machine.{Memory, State, Fault, Next, at-end, next, faults, state, on-to, with-cell, with-rest-of-roll, with-posted, worked-out, received, post-if, post, variable-place, variable-name, figure-of, target, store, assign, control-figure, assign-control, from, test-step, after-test, after-if, after-switch, step-at, step}
+use Rattle.meaning.specs.Machine.{Memory, State, Fault, Next, at-end, next, faults, state, on-to, with-cell, with-rest-of-roll, with-posted, worked-out, received, post-if, post, variable-place, variable-name, figure-of, target, store, assign, from, increased, test-step, after-test, after-if, after-switch, step-at, step}
 use Rattle.meaning.specs.Runs.{Steps, no-step, and-step}
 use Rattle.meaning.specs.Laws.{Has-cell, the-first, an-element, Book-grows, Roll-shrinks, Book-law, Roll-law}
 
@@ -128,24 +128,23 @@ module _ {V : Type 0} (kind : Kind V) (names : Names) (text : Option Statement) 
   reached : (C : ℕ → Type 0) (m n : Memory V) (q : Position) (t : State V) → on-to q n ≡ next t → Change C m n → Change C m (t .memory)
   reached C m n q t e h = subst (λ u. Change C m (u .memory)) (same-next (state n q) t e) h
 
-  -- A step of a for that assigns to its control variable.
-  control-changes : (m n : Memory V) (loop : Loop) (o : Outcome V) (q : Position) (t : State V) → on-to q n ≡ next t
-      → and-then (assign-control kind names text m loop) o ≡ value n → Change (Has-cell names (loop .control .letters)) m (t .memory)
-  control-changes m n loop o q t e h =
-      let C : ℕ → Type 0 = Has-cell names (loop .control .letters) in
-      let a = came (assign-control kind names text m loop) o n h in
-      reached C m n q t e (store-changes C m n (loop .control) (cell-of kind names (loop .control)) (a .from) the-first (a .then))
+  -- An assignment changes one cell of its name.
+  assign-changes : (m n : Memory V) (v : Variable) (x : Exp) → assign kind names text m v x ≡ value n → Change (Has-cell names (variable-name v .letters)) m n
+  assign-changes m n v x e =
+      let y = variable-name v in
+      let a = came (λ c. and-then (store kind names text m y c) (figure-of kind names text m x)) (target kind names text m v) n e in
+      let b = came (store kind names text m y (a .from)) (figure-of kind names text m x) n (a .then) in
+      store-changes (Has-cell names (y .letters)) m n y (a .from) (b .from) (target-is-cell m v (a .from) (a .was)) (b .then)
+
+  assignment-step : (p : ℕ) (q : Position) (m : Memory V) (v : Variable) (x : Exp) (t : State V) → worked-out p (on-to q) (assign kind names text m v x) ≡ next t
+      → Change (Has-cell names (variable-name v .letters)) m (t .memory)
+  assignment-step p q m v x t e =
+      let w = worked p (on-to q) (assign kind names text m v x) t e in
+      reached (Has-cell names (variable-name v .letters)) m (w .result) q t (w .goes-on) (assign-changes m (w .result) v x (w .was))
 
   pub step-changes : (m : Memory V) (p : Position) (t : State V) → step-at kind names text m p ≡ next t → Change (Stored-at p) m (t .memory)
   step-changes m end t e = absurd (end-is-no-next t e)
-  step-changes m (at-assignment v x k) t e =
-      let w = worked (variable-place v) (on-to (leave k)) (assign kind names text m v x) t e in
-      let n : Memory V = w .result in
-      let y = variable-name v in
-      let a = came (λ c. and-then (store kind names text m y c) (figure-of kind names text m x)) (target kind names text m v) n (w .was) in
-      let b = came (store kind names text m y (a .from)) (figure-of kind names text m x) n (a .then) in
-      reached (Has-cell names (y .letters)) m n (leave k) t (w .goes-on)
-      (store-changes (Has-cell names (y .letters)) m n y (a .from) (b .from) (target-is-cell m v (a .from) (a .was)) (b .then))
+  step-changes m (at-assignment v x k) t e = assignment-step (variable-place v) (leave k) m v x t e
   step-changes m (at-go p l k) t e = reached (λ c. ⊥) m m (destination text (l .letters) k) t e unchanged
   step-changes m (at-switch p x i k) t e =
       let w = worked p (λ v. on-to (after-switch kind names text x k v) m) (figure-of kind names text m i) t e in
@@ -169,14 +168,9 @@ module _ {V : Type 0} (kind : Kind V) (names : Names) (text : Option Statement) 
       reached (λ c. ⊥) m n (next-print p k es) t (w .goes-on) (post-changes (λ c. ⊥) m n (a .from) (ltb (length (m .posted)) (m .book-length)) (a .then))
   step-changes m (at-stop p) t e = reached (λ c. ⊥) m m end t e unchanged
   step-changes m (at-element loop x es k) t e =
-      let q : Position = enter (loop .body) (turn loop x es k) in
-      let w = worked (loop .place) (on-to q) (and-then (assign-control kind names text m loop) (figure-of kind names text m (from kind names text x))) t e in
-      control-changes m (w .result) loop (figure-of kind names text m (from kind names text x)) q t (w .goes-on) (w .was)
+      assignment-step (loop .place) (enter (loop .body) (turn loop x es k)) m (whole (loop .control)) (from kind names text x) t e
   step-changes m (at-addition loop a s b es k) t e =
-      let q : Position = at-test loop a s b es k in
-      let o : Outcome V = both (kind .add) (control-figure kind names text m loop) (figure-of kind names text m s) in
-      let w = worked (loop .place) (on-to q) (and-then (assign-control kind names text m loop) o) t e in
-      control-changes m (w .result) loop o q t (w .goes-on) (w .was)
+      assignment-step (loop .place) (at-test loop a s b es k) m (whole (loop .control)) (increased kind names text loop s) t e
   step-changes m (at-test loop a s b es k) t e =
       let go : Bool → Position = after-test kind names text loop (progression a s b) es k in
       let w = worked (loop .place) (λ past. on-to (go past) m) (test-step kind names text m loop s b) t e in

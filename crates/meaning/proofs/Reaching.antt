@@ -13,7 +13,7 @@ use Rattle.rolls.specs.Contents.{first as first-figure}
 use Rattle.meaning.specs.Names.{Names}
 use Rattle.meaning.specs.Expressions.{and-then, is-true}
 use Rattle.meaning.specs.Positions.{Loop, Continuation, nothing, rest, turn, Position, end, at-assignment, at-go, at-switch, at-if, at-input, at-print, at-stop, at-element, at-addition, at-test, enter, leave, next-element, next-print, find, find-in-text, destination, kth, beginning}
-use Rattle.meaning.specs.Machine.{Memory, State, Next, next, state, on-to, worked-out, received, with-rest-of-roll, post, variable-place, variable-name, figure-of, target, store, assign, assign-control, from, add-step, test-step, after-test, after-if, go-or-leave, after-switch, step-at, step}
+use Rattle.meaning.specs.Machine.{Memory, State, Next, next, state, on-to, worked-out, received, with-rest-of-roll, post, variable-place, variable-name, figure-of, target, store, assign, assign-control, from, increased, test-step, after-test, after-if, go-or-leave, after-switch, step-at, step}
 use Rattle.meaning.specs.Runs.{Steps, no-step, and-step}
 use Rattle.meaning.proofs.Changing.{worked, figure-received, same-next, end-is-no-next}
 
@@ -163,10 +163,10 @@ module _ (S : Continuation → Statement → Type 0) where
       step-keeps m (at-stop p) t e h = arrived m end t e tt
       step-keeps m (at-element loop x es k) t e h =
           let q : Position = enter (loop .body) (turn loop x es k) in
-          let w = worked (loop .place) (on-to q) (and-then (assign-control kind names text m loop) (figure-of kind names text m (from kind names text x))) t e in
+          let w = worked (loop .place) (on-to q) (assign-control kind names text m loop (from kind names text x)) t e in
           arrived (w .result) q t (w .goes-on) (body-keeps loop x es k (h .0) (h .1))
       step-keeps m (at-addition loop a s b es k) t e h =
-          let w = worked (loop .place) (on-to (at-test loop a s b es k)) (add-step kind names text m loop s) t e in
+          let w = worked (loop .place) (on-to (at-test loop a s b es k)) (assign-control kind names text m loop (increased kind names text loop s)) t e in
           arrived (w .result) (at-test loop a s b es k) t (w .goes-on) h
       step-keeps m (at-test loop a s b es k) t e h =
           let go : Bool → Position = after-test kind names text loop (progression a s b) es k in

@@ -7,11 +7,13 @@ use lib.Dec.{ltb}
 use lib.ListN.{length, set}
 use Rattle.std.specs.declared.option.Option.{Option}
 use Rattle.std.specs.declared.option.Option.the-variants.{Some, None}
-use Rattle.grammar.specs.Tree.{Name, Exp, Variable, whole, indexed, Element, single, progression, Statement}
+use Rattle.words.specs.declared.token.Sign.the-variants.{Plus}
+use Rattle.grammar.specs.declared.operator.Operator.the-variants.{Additive}
+use Rattle.grammar.specs.Tree.{Name, Exp, simple, joined, Variable, whole, indexed, Element, single, progression, Statement}
 use Rattle.figures.specs.Kinds.{Outcome, value, refused, Kind}
 use Rattle.rolls.specs.Contents.{Contents, Taken, took, refused as roll-refused, refused-at, first as first-figure, rest as rest-of-roll}
 use Rattle.meaning.specs.Names.{Names}
-use Rattle.meaning.specs.Expressions.{and-then, both, is-true, as-stored, figure-in, cell-of, subscripted-cell, figure}
+use Rattle.meaning.specs.Expressions.{and-then, both, is-true, as-stored, cell-of, subscripted-cell, figure}
 use Rattle.meaning.specs.Positions.{Loop, Continuation, turn, Position, end, at-assignment, at-go, at-switch, at-if, at-input, at-print, at-stop, at-element, at-addition, at-test, enter, leave, next-element, next-print, destination, kth}
 
 -- What steps change: the named cells, the roll, and the book. A book has the length that the caller gave it, and holds
@@ -100,21 +102,18 @@ module _ {V : Type 0} (kind : Kind V) (names : Names) (text : Option Statement) 
   abbrev pub assign : Memory V → Variable → Exp → Outcome (Memory V)
   assign m v e = both (store m (variable-name v)) (target m v) (figure-of m e)
 
-  -- The control variable of a for, and what is assigned to it.
-  abbrev pub control-figure : Memory V → Loop → Outcome V
-  control-figure m loop = figure-in kind (m .cells) (cell-of kind names (loop .control))
-
-  abbrev pub assign-control : Memory V → Loop → V → Outcome (Memory V)
-  assign-control m loop v = store m (loop .control) (cell-of kind names (loop .control)) v
-
   -- The first figure of an element.
   abbrev pub from : Element → Exp
   from (single e) = e
   from (progression a s b) = a
 
-  -- V := V + S.
-  abbrev pub add-step : Memory V → Loop → Exp → Outcome (Memory V)
-  add-step m loop s = and-then (assign-control m loop) (both (kind .add) (control-figure m loop) (figure-of m s))
+  -- V := E, for the control variable V of a for.
+  abbrev pub assign-control : Memory V → Loop → Exp → Outcome (Memory V)
+  assign-control m loop e = assign m (whole (loop .control)) e
+
+  -- V + S.
+  abbrev pub increased : Loop → Exp → Exp
+  increased loop s = joined (Additive Plus) (simple (loop .control)) s
 
   -- Is v past the limit b? Going down, where v is less than b; going up, where b is less than v.
   abbrev pub is-past : V → V → Bool → Bool
@@ -128,7 +127,7 @@ module _ {V : Type 0} (kind : Kind V) (names : Names) (text : Option Statement) 
   -- The test of a progression: the step S, its sign, then the limit B. Is V past the limit?
   abbrev pub test-step : Memory V → Loop → Exp → Exp → Outcome Bool
   test-step m loop s b =
-      and-then (λ down. both (λ v limit. value (is-past v limit down)) (control-figure m loop) (figure-of m b)) (goes-down m s)
+      and-then (λ down. both (λ v limit. value (is-past v limit down)) (figure-of m (simple (loop .control))) (figure-of m b)) (goes-down m s)
 
   -- After the test, the body comes again, or the next element.
   abbrev pub after-test : Loop → Element → List Element → Continuation → Bool → Position
@@ -161,8 +160,8 @@ module _ {V : Type 0} (kind : Kind V) (names : Names) (text : Option Statement) 
   step-at m (at-print p e es k) = worked-out p (on-to (next-print p k es)) (and-then (post m) (figure-of m e))
   step-at m (at-stop p) = on-to end m
   step-at m (at-element loop e es k) =
-      worked-out (loop .place) (on-to (enter (loop .body) (turn loop e es k))) (and-then (assign-control m loop) (figure-of m (from e)))
-  step-at m (at-addition loop a s b es k) = worked-out (loop .place) (on-to (at-test loop a s b es k)) (add-step m loop s)
+      worked-out (loop .place) (on-to (enter (loop .body) (turn loop e es k))) (assign-control m loop (from e))
+  step-at m (at-addition loop a s b es k) = worked-out (loop .place) (on-to (at-test loop a s b es k)) (assign-control m loop (increased loop s))
   step-at m (at-test loop a s b es k) =
       worked-out (loop .place) (λ past. on-to (after-test loop (progression a s b) es k past) m) (test-step m loop s b)
 
