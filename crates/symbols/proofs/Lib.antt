@@ -8,3 +8,4 @@ pub mod Bounds
 pub mod Labels
 pub mod Jumps
 pub mod InText
+pub mod Telling

@@ -10,3 +10,4 @@ pub mod Laws
 pub mod Typing
 pub mod ForsAround
 pub mod TextOrder
+pub mod TextLaw

@@ -2,6 +2,7 @@
 
 ghost use Rattle.symbols.specs.Laws.{Verdict-law, Table-law, Enough-cells, Bounds-law, Names-law};
 ghost use Rattle.symbols.specs.ForsAround.{Jumps-law};
+ghost use Rattle.symbols.specs.TextLaw.{Text-law};
 ghost use Rattle.symbols.specs.TextOrder.{Text-order};
 ghost use Rattle.symbols.specs.Typing.{Types-law};
 
@@ -57,6 +58,13 @@ pub fn jumps_law_holds() -> u8
 // In an accepted tree an array's bounds are in order and within 9,999 either way, and it has a cell for each subscript.
 pub fn bounds_law_holds() -> u8
     ensures { λ _. ⌜ Bounds-law ⌝ }
+{
+    0
+}
+
+// What is told of a text of bytes is true of it, by the rules of words, of sentences and of names.
+pub fn text_law_holds() -> u8
+    ensures { λ _. ⌜ Text-law ⌝ }
 {
     0
 }
