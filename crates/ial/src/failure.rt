@@ -36,7 +36,10 @@ pub impl fmt::Display for Failure as FailureDisplay {
                 f,
                 "refused {number}: a group has 1 to 64 figures"
             ),
-            Failure::Setting(number) => write!(f, "refused {number}: --set names a named cell by its number"),
+            Failure::Setting(number) => write!(
+                f,
+                "refused {number}: --set names a named cell by its number"
+            ),
             Failure::NoMemory => f.write_str("there is not enough memory"),
             Failure::Output => f.write_str("reading or writing failed"),
             Failure::Told => f.write_str("refused"),

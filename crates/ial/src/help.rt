@@ -13,11 +13,18 @@ const TEXT: &str = "ial: fund rules in IAL, translated and run with proof
                               or the refusal with the operation's number
   ial list FILE               list a file of stored code, an operation a line,
                               and mark the operation that the check refuses
+  ial run CODE ROLL [--kind whole|hundredths] [--group G] [--book N] [--steps K]
+          [--limit N] [--set CELL=FIGURE].. [--json]
+                              run stored code over a roll, K steps at a call,
+                              until it ends or N steps are made; print the
+                              posted figures, the count, the status and the
+                              named cells
   ial help                    print this
 
 A roll file holds one whole figure a line: an optional minus sign and 1 to 10
-digits, within -2000000000 to 2000000000. The first line that is none, or has no
-line end, damages the roll from its first byte on.
+digits, within -2000000000 to 2000000000. For hundredths a line is an amount:
+digits, and optionally a point and two digits. The first line that is none, or
+has no line end, damages the roll from its first byte on.
 
 Results go to standard output. What cannot be done is told in one line on
 standard error, with status 1.";

@@ -73,7 +73,10 @@ fn print_standing(rt: &LibcRuntime, standing: Standing) -> Result<(), Failure> {
             let number = fault.number();
             let reason = fault.reason();
             match fault.roll_place() {
-                Some(at) => println!(rt, "status: fault {number} at text byte {place}, roll byte {at}: {reason}")?,
+                Some(at) => println!(
+                    rt,
+                    "status: fault {number} at text byte {place}, roll byte {at}: {reason}"
+                )?,
                 None => println!(rt, "status: fault {number} at text byte {place}: {reason}")?,
             }
         }
@@ -90,7 +93,10 @@ fn print_json<F: Shown>(
     book: &[F],
 ) -> Result<(), Failure> {
     let (n, v, m, d) = (sizes.operations, sizes.named, sizes.cells, sizes.depth);
-    print!(rt, "{{\"sizes\": {{\"n\": {n}, \"v\": {v}, \"m\": {m}, \"depth\": {d}}}, \"advances\": [")?;
+    print!(
+        rt,
+        "{{\"sizes\": {{\"n\": {n}, \"v\": {v}, \"m\": {m}, \"depth\": {d}}}, \"advances\": ["
+    )?;
     for (i, slice) in slices.iter().enumerate() {
         let comma = if i == 0 { "" } else { ", " };
         let (asked, made) = (slice.asked, slice.made);
@@ -112,7 +118,10 @@ fn print_json_standing(rt: &LibcRuntime, standing: Standing) -> Result<(), Failu
         Standing::End => print!(rt, ", \"status\": \"end\"")?,
         Standing::Fault(fault, place) => {
             let number = fault.number();
-            print!(rt, ", \"status\": \"fault\", \"fault\": {{\"number\": {number}, \"place\": {place}, \"roll\": ")?;
+            print!(
+                rt,
+                ", \"status\": \"fault\", \"fault\": {{\"number\": {number}, \"place\": {place}, \"roll\": "
+            )?;
             match fault.roll_place() {
                 Some(at) => print!(rt, "{at}}}")?,
                 None => print!(rt, "null}}")?,

@@ -22,6 +22,7 @@ use machine::prepare::prepare;
 use machine::ready::Ready;
 use machine::running::Running;
 use machine::status::Standing;
+use machine::status::StandingPartialEq;
 use rolls::leavers::LeaverFilter;
 use rolls::leavers::LeaverFilterRoll;
 use rolls::roll::Roll;
@@ -30,7 +31,6 @@ use rolls::text::TextRollRoll;
 use std::alloc::AllocError;
 use std::alloc::Global;
 use std::fs;
-use machine::status::StandingPartialEq;
 
 pub(crate) fn report(rt: &LibcRuntime, options: &RunOptions) -> Result<(), Failure> {
     let loaded = loaded::load(rt, options.code)?;
@@ -122,7 +122,15 @@ where
         }
         outcome::progress(rt, running.status().count);
     }
-    outcome::print(rt, options.json, sizes, slices.as_slice(), running.status(), cells.as_slice(), book.as_slice())
+    outcome::print(
+        rt,
+        options.json,
+        sizes,
+        slices.as_slice(),
+        running.status(),
+        cells.as_slice(),
+        book.as_slice(),
+    )
 }
 
 // So many figures, all of them of(0).

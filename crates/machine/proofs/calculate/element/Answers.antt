@@ -18,8 +18,8 @@ returns-then-offset-lt0 g c =
     let number = c .nearest .ensures .value in
     let z = from-low d (g .F·Figures .kind .nearest (g .F·Figures .means (c .args .subscript))) in
     elim (c .then-offset-lt0 .came) [
-      then-offset-lt0·by·then-offset-lt0 w ↦
-        record { cell = sym (below-fails d z (let h : z <ℤ pos 0 = omega (arith, ints, w .if-offset-lt0 .taken, number, biased) in h)); below = tt }
-    | then-offset-lt0·by·else-offset-lt0·then-offset-array w ↦
-        record { cell = sym (above-fails d z (let h : pos (d .count) ≤ℤ z = omega (arith, ints, w .if-offset-array .taken, number, biased, count) in h)); below = tt }
+      | then-offset-lt0·by·then-offset-lt0 w ↦
+          record { cell = sym (below-fails d z (let h : z <ℤ pos 0 = omega (arith, ints, w .if-offset-lt0 .taken, number, biased) in h)); below = tt }
+      | then-offset-lt0·by·else-offset-lt0·then-offset-array w ↦
+          record { cell = sym (above-fails d z (let h : pos (d .count) ≤ℤ z = omega (arith, ints, w .if-offset-array .taken, number, biased, count) in h)); below = tt }
     ]
