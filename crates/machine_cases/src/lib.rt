@@ -15,6 +15,7 @@ mod tests {
     use figures::whole::WholeFigures;
     use machine::prepare::prepare;
     use machine::ready::Ready;
+    use machine::refusal::Refusal;
     use machine::refusal::RefusalDebug as _;
     use rolls::table::TableRoll;
     use rolls::table::TableRollRoll;
@@ -355,6 +356,14 @@ mod tests {
         Ok(())
     }
 
+    // The steps made, or the number of the refusal.
+    fn answer(answered: Result<u64, Refusal>) -> u64 {
+        match answered {
+            Ok(made) => made,
+            Err(refusal) => refusal.number() as u64,
+        }
+    }
+
     // 41 to 46 in one run that posts a figure and then goes round.
     #[test]
     fn refusals() -> Result<(), Fail> {
@@ -381,30 +390,24 @@ mod tests {
         let mut roll = TableRoll::new(&[]);
         let mut book = [whole(0); 1];
         let mut stack = [whole(0); 1];
-        // steps, cells, stack and book to lend, and the answer or the refusal
-        let calls = [
-            (1, 1, 0, 0, 41),
-            (1, 2, 0, 0, 42),
-            (4_000_000_001, 2, 1, 0, 45),
-            (0, 2, 1, 0, 0),
-            (1, 2, 1, 1, 1),
-            (4_000_000_000, 2, 1, 0, 45),
-            (3, 2, 1, 0, 46),
-            (7, 2, 1, 1, 7),
-        ];
-        for (steps, m, d, b, answer) in calls {
-            let answered = run.advance(
-                steps,
-                &mut cells[0..m],
-                &mut stack[0..d],
-                &mut book[0..b],
-                &mut roll,
-            );
-            match answered {
-                Ok(made) => check_eq(made, answer)?,
-                Err(refusal) => check_eq(refusal.number() as u64, answer)?,
-            }
-        }
+        // 41 and 42 come first, then 45; 0 steps are made; then the figure is posted
+        let refused = run.advance(1, &mut [whole(0)], &mut [], &mut book, &mut roll);
+        check_eq(answer(refused), 41)?;
+        let refused = run.advance(1, &mut cells, &mut [], &mut book, &mut roll);
+        check_eq(answer(refused), 42)?;
+        let refused = run.advance(4_000_000_001, &mut cells, &mut stack, &mut book, &mut roll);
+        check_eq(answer(refused), 45)?;
+        let made = run.advance(0, &mut cells, &mut stack, &mut book, &mut roll);
+        check_eq(answer(made), 0)?;
+        let made = run.advance(1, &mut cells, &mut stack, &mut book, &mut roll);
+        check_eq(answer(made), 1)?;
+        // one step was made: 4,000,000,000 more are too many, and a book of no length is too short
+        let refused = run.advance(4_000_000_000, &mut cells, &mut stack, &mut [], &mut roll);
+        check_eq(answer(refused), 45)?;
+        let refused = run.advance(3, &mut cells, &mut stack, &mut [], &mut roll);
+        check_eq(answer(refused), 46)?;
+        let made = run.advance(7, &mut cells, &mut stack, &mut book, &mut roll);
+        check_eq(answer(made), 7)?;
         check_eq(told(run.status()), (8, 1, 0, 0, 0))?;
         check_eq(run.ask(&cells, 0)?.units, 4)?;
         check_eq(run.ask(&cells, 1).is_err(), true)
