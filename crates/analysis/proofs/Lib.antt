@@ -1,3 +1,4 @@
 pub mod Nodes
 pub mod EarlierPlace
 pub mod Rows
+pub mod Parts

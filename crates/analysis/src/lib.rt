@@ -2,4 +2,5 @@
 
 pub mod bounds;
 mod earliest;
+pub mod letters;
 mod tree;
