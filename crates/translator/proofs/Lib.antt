@@ -1,0 +1,5 @@
+mod Cases
+mod Expressions
+mod Behind
+mod Placing
+mod Resuming
