@@ -1,11 +1,11 @@
 use mathlib.Core.Path.{refl}
-use Rattle.words.specs.Words.{name-token, mark-at, words-of}
+use Rattle.words.specs.Words.{words-within, name-token, mark-at}
 use Rattle.symbols.specs.Rules.{verdict}
 use Rattle.meaning.specs.Cases.{comes-of}
 use Rattle.meaning.proofs.cases.worked_cases_hold.Needs as need
 
 pub returns : need.returns
-unfolding name-token mark-at words-of verdict comes-of
+unfolding words-within name-token mark-at verdict comes-of
 returns c = record {
   worked = record {
     quotient = refl;
