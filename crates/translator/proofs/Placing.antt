@@ -13,7 +13,9 @@ use Rattle.figures.specs.Kinds.{Kind}
 use Rattle.code.specs.declared.operations.Operation.the-variants.{Mark, Load, Jump, Table, Rows, Here}
 use Rattle.meaning.specs.Names.{Names}
 use Rattle.meaning.specs.Positions.{first, later, Loop, Continuation, rest, Position, enter, find}
+use Rattle.symbols.specs.Jumps.{open-labels}
 use Rattle.meaning.specs.Laws.{has-label}
+use Rattle.meaning.proofs.Jumping.{among-both}
 use Rattle.translator.specs.Generator.{Entry, entry, plain, all-of, exp-size, type-of, elements-size, elements-code, turns-code, size, loops, code}
 use Rattle.translator.specs.Compiled.{Placed, Loop-placed, Continues, passes, goes, At-statement, At-loop, At-print, Stands, seen-inside}
 use Rattle.translator.specs.Simulation.{Placing-law}
@@ -23,7 +25,7 @@ use Rattle.translator.proofs.Behind.{to, further, behind-exp, behind-elements,
 pub find-none : (l : List ℕ) (s : Statement) (k : Continuation) (o : Position) → has-label l s ≡ false → find l s k o ≡ o
 find-none l (labelled x s) k o e = go-on (sameBytes l (x .letters)) e (find-none l s k o)
   where
-    go-on : (b : Bool) → cond b true (has-label l s) ≡ false → (has-label l s ≡ false → find l s k o ≡ o) → cond b (enter s k) (find l s k o) ≡ o
+    go-on : (b : Bool) → (b || has-label l s) ≡ false → (has-label l s ≡ false → find l s k o ≡ o) → cond b (enter s k) (find l s k o) ≡ o
     go-on true e f = cc
     go-on false e f = f e
 find-none l (conditional p x s) k o e = find-none l s k o e
@@ -34,7 +36,7 @@ find-none l (switched p x y) k o e = refl
 find-none l (input p x) k o e = refl
 find-none l (printed p es) k o e = refl
 find-none l (stop p) k o e = refl
-find-none l (sequence s t) k o e = go-on (has-label l s) refl e (find-none l s (rest t k) (find l t k o)) (find-none l t k o)
+find-none l (sequence s t) k o e = go-on (has-label l s) refl (sym (among-both (open-labels s) (open-labels t) l) ∙ e) (find-none l s (rest t k) (find l t k o)) (find-none l t k o)
   where
     go-on : (b : Bool) → has-label l s ≡ b → (b || has-label l t) ≡ false
         → (has-label l s ≡ false → find l s (rest t k) (find l t k o) ≡ find l t k o) → (has-label l t ≡ false → find l t k o ≡ o)
@@ -209,7 +211,7 @@ module _ {V : Type 0} (kind : Kind V) (c : List Entry) (names : Names) (label-at
   find-stands l (labelled x s) {cells} {a = a} {k = k} o p low q e =
       pick (sameBytes l (x .letters)) refl e (λ h. find-stands l s o (labelled-part p) low q h)
     where
-      pick : (b : Bool) → sameBytes l (x .letters) ≡ b → cond b true (has-label l s) ≡ true → (has-label l s ≡ true → S cells (label-at l) (find l s k o))
+      pick : (b : Bool) → sameBytes l (x .letters) ≡ b → (b || has-label l s) ≡ true → (has-label l s ≡ true → S cells (label-at l) (find l s k o))
           → S cells (label-at l) (cond b (enter s k) (find l s k o))
       pick true h e f =
           subst (λ n. S cells n (enter s k)) (sym (ap label-at (sameBytes-decides l (x .letters) .0 h) ∙ p .labels .0)) (enter-stands s (labelled-part p) low q)
@@ -223,7 +225,7 @@ module _ {V : Type 0} (kind : Kind V) (c : List Entry) (names : Names) (label-at
   find-stands l (printed p es) o y low q e = let z : _≡_ {A = ℕ} 0 1 = cc in absurd (omega arith)
   find-stands l (stop p) o y low q e = let z : _≡_ {A = ℕ} 0 1 = cc in absurd (omega arith)
   find-stands l (sequence s t) {cells} {seen} {hb} {h} {a} {b} {k} o p low q e =
-      pick (has-label l s) refl e
+      pick (has-label l s) refl (sym (among-both (open-labels s) (open-labels t) l) ∙ e)
       (λ g. find-stands l s (find l t k o) (first-of p) low (goes (h + loops names s) b (second p) (omega arith) q) g)
       (λ g. find-stands l t o (second p) (omega arith) q g)
     where
