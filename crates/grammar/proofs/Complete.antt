@@ -74,7 +74,7 @@ statement-first (a-print lt e o x c) = first _ e (record { comment = refl; integ
 statement-first (a-stop e) = first _ e (record { comment = refl; integer = refl; boolean = refl; array = refl; switch = refl })
 
 -- An operator of the ranks from m on is taken.
-operator-moves : (m : ℕ) (o : Operator) (x : Exp) (d b : ℕ) (k : Around (a (ranked m))) → m ≤ rank o
+pub operator-moves : (m : ℕ) (o : Operator) (x : Exp) (d b : ℕ) (k : Around (a (ranked m))) → m ≤ rank o
     → moved (at d (goto (operators m (rank o) x)) k) (operator-token o) b ≡ Some (at d (operator-script m x o) k)
 operator-moves m Equivalence x d b k h = let e : leb m 1 ≡ true = le-leb m 1 h in rw e
 operator-moves m Disjunction x d b k h = let e : leb m 2 ≡ true = le-leb m 2 h in rw e
@@ -82,19 +82,19 @@ operator-moves m Conjunction x d b k h = let e : leb m 3 ≡ true = le-leb m 3 h
 operator-moves m (Additive s) x d b k h = let e : leb m 5 ≡ true = le-leb m 5 h in rw e
 operator-moves m (Multiplicative s) x d b k h = let e : leb m 6 ≡ true = le-leb m 6 h in rw e
 
-operator-opens : (o : Operator) → opens (operator-token o) ≡ false
+pub operator-opens : (o : Operator) → opens (operator-token o) ≡ false
 operator-opens Equivalence = refl
 operator-opens Disjunction = refl
 operator-opens Conjunction = refl
 operator-opens (Additive s) = refl
 operator-opens (Multiplicative s) = refl
 
-prefix-moves : (m : ℕ) (o : Prefix) (d b : ℕ) (k : Around (a (ranked m))) → m ≤ prefix-rank o
+pub prefix-moves : (m : ℕ) (o : Prefix) (d b : ℕ) (k : Around (a (ranked m))) → m ≤ prefix-rank o
     → moved (at d (goto (begin (a (ranked m)))) k) (prefix-token o) b ≡ Some (at d (prefix-script m b o) k)
 prefix-moves m Negation d b k h = let e : leb m 4 ≡ true = le-leb m 4 h in rw e
 prefix-moves m (Signed s) d b k h = let e : leb m 5 ≡ true = le-leb m 5 h in rw e
 
-prefix-opens : (o : Prefix) → opens (prefix-token o) ≡ false
+pub prefix-opens : (o : Prefix) → opens (prefix-token o) ≡ false
 prefix-opens Negation = refl
 prefix-opens (Signed s) = refl
 

@@ -141,3 +141,8 @@ module _ {p : Phrase} {L : ℕ} {r : Parser} {a : Spot p} where
   pub fails-here : {s : Parser} {b : Spot p} (e : Refusal) → Goes L r s a b
       → ((limit d : ℕ) (k : Around p) → d + L ≡ limit → run limit (length (s .text .now)) (ahead s) (state b d k) ≡ refused (e .reason) (e .place)) → Fails L r a e
   fails-here {s} {b} e w x limit d k h = w .leads limit d k h ∙ rw (sym (ap length (w .moves .same .text))) (x limit d k h)
+
+-- What another call read or refused, behind the way so far.
+pub reads-behind : {p : Phrase} (At : View → Value p → ℕ → Type 0) {L : ℕ} {r s : Parser} (q : Parser) {a b : Spot p} (res : Result ℕ Refusal) → Goes L r s a b → Reads At L s q b res → Reads At L r q a res
+reads-behind At q (Ok i) g x = record { tree = x .tree; below = x .below; held = x .held; goes = goes-trans g (x .goes) }
+reads-behind At q (Err e) g f = λ limit d k h. g .leads limit d k h ∙ rw (sym (ap length (g .moves .same .text))) (f limit d k h)

@@ -4,3 +4,5 @@ pub mod Going
 pub mod Holding
 pub mod Naming
 pub mod Rows
+pub mod Operators
+pub mod Factors
