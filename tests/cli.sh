@@ -51,4 +51,17 @@ expect 0 $'n 1, named cells 0, cells 0, depth 0\n     0  MARK   text 0\n     ^  
 expect 1 'refused 27: file is not 16 + 9n bytes' list short.code
 expect 1 'ial: `list` takes a FILE of stored code; `ial help` explains the commands' list
 
+printf '2\n10\n20\n' > "$dir/two.roll"
+printf '3\n10\n20\n' > "$dir/three.roll"
+printf '2\n10\n2O\n' > "$dir/damaged.roll"
+expect 0 $'posted: 1\n  30\ncount: 12\nstatus: end\ncells: 4\n  0: 2\n  1: 30\n  2: 3\n  3: 20' run sum.code two.roll
+expect 0 '{"sizes": {"n": 31, "v": 4, "m": 4, "depth": 2}, "advances": [[5, 5], [5, 5], [5, 2]], "count": 12, "posted": ["30"], "status": "end", "cells": ["2", "30", "3", "20"]}' run sum.code two.roll --steps 5 --json
+expect 0 $'posted: 0\ncount: 11\nstatus: fault 33 at text byte 25: the roll has ended\ncells: 4\n  0: 3\n  1: 30\n  2: 3\n  3: 20' run sum.code three.roll
+expect 0 $'posted: 0\ncount: 4\nstatus: going\ncells: 4\n  0: 3\n  1: 0\n  2: 1\n  3: 10' run sum.code three.roll --limit 4 --set 1=77
+expect 0 '{"sizes": {"n": 31, "v": 4, "m": 4, "depth": 2}, "advances": [[1000000, 7]], "count": 7, "posted": [], "status": "fault", "fault": {"number": 34, "place": 25, "roll": 5}, "cells": ["2", "10", "2", "10"]}' run --json sum.code damaged.roll
+expect 0 $'posted: 0\ncount: 11\nstatus: fault 35 at text byte 50: the book is full\ncells: 4\n  0: 2\n  1: 30\n  2: 3\n  3: 20' run sum.code two.roll --book 0
+expect 1 'refused 25 at operation 26: jump, ROWS or place 0 against its rule' run refused.code two.roll
+expect 1 'ial: refused 43: --set names a named cell by its number' run sum.code two.roll --set 4=1
+expect 1 'ial: `run` takes CODE, ROLL and options; `ial help` explains the commands' run sum.code
+
 exit $failed
