@@ -42,13 +42,20 @@ row-and-end (b ∷ row) rest inside =
     ap (onto b) (row-and-end row rest (parts .1))
     ∙ onto-no-end b (record { lines = row ∷ file-of rest .lines; unended = file-of rest .unended }) (not-true (eqb b 10) (parts .0))
 
--- Digits alone are no line, since nothing ends them.
-pub digits-alone : (ds : List ℕ) → all-digits ds ≡ true → file-of ds ≡ record { lines = []; unended = ds }
-digits-alone [] digits = refl
-digits-alone (d ∷ ds) digits =
-    let parts = and-parts (is-digit d) (all-digits ds) digits in
-    ap (onto d) (digits-alone ds (parts .1))
-    ∙ onto-no-end d (record { lines = []; unended = ds }) (digit-is-no-end d (parts .0))
+-- Two rows without a byte 10, one behind the other, have none.
+pub no-end-append : (xs ys : List ℕ) → no-end xs ≡ true → no-end ys ≡ true → no-end (xs ++ ys) ≡ true
+no-end-append [] ys p q = q
+no-end-append (x ∷ xs) ys p q =
+    let parts = and-parts (not (eqb x 10)) (no-end xs) p in
+    and-from (not (eqb x 10)) (no-end (xs ++ ys)) (parts .0) (no-end-append xs ys (parts .1) q)
+
+-- Bytes none of which is a byte 10 are no line, since nothing ends them.
+pub unended-alone : (bytes : List ℕ) → no-end bytes ≡ true → file-of bytes ≡ record { lines = []; unended = bytes }
+unended-alone [] inside = refl
+unended-alone (b ∷ bytes) inside =
+    let parts = and-parts (not (eqb b 10)) (no-end bytes) inside in
+    ap (onto b) (unended-alone bytes (parts .1))
+    ∙ onto-no-end b (record { lines = []; unended = bytes }) (not-true (eqb b 10) (parts .0))
 
 -- What holds of the first line, where there is one.
 abbrev First : (List ℕ → Type 0) → List (List ℕ) → Type 0

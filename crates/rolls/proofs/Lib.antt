@@ -6,3 +6,6 @@ pub mod Grouping
 pub mod Taking
 pub mod WholeLines
 pub mod Written
+pub mod LineEnds
+pub mod AmountLines
+pub mod WrittenAmounts

@@ -12,7 +12,7 @@ use Rattle.std.proofs.shelf.Lists.{append-nil, drop-all, drop-drop, drop-more, 
 use Rattle.std.proofs.shelf.Tests.{and-from, cases-lt, cond-true, le-leb, ne-eqb}
 use Rattle.rolls.specs.Lines.{File, all-digits, digits-value, file-of, is-magnitude, magnitude}
 use Rattle.rolls.specs.Text.{Digits-read, Magnitude-line, first-magnitude}
-use Rattle.rolls.proofs.FirstLine.{digits-alone, digits-no-end, eleventh-byte-none, empty-none, large-none, other-byte-none, row-and-end}
+use Rattle.rolls.proofs.FirstLine.{digits-no-end, eleventh-byte-none, empty-none, large-none, other-byte-none, row-and-end, unended-alone}
 
 module _ (bytes : List ℕ) (start value end : ℕ) (r : Digits-read bytes start value end) where
   abbrev row : List ℕ
@@ -35,7 +35,7 @@ module _ (bytes : List ℕ) (start value end : ℕ) (r : Digits-read bytes start
   pub unended-none : length bytes ≤ end → first-magnitude (file-of (drop start bytes) .lines) ≡ None
   unended-none past =
       let alone : drop start bytes ≡ row = split ∙ ap (λ t. row ++ t) (drop-all end bytes past) ∙ append-nil row in
-      ap (λ bs. first-magnitude (file-of bs .lines)) alone ∙ ap (λ f. first-magnitude (f .lines)) (digits-alone row (r .digits))
+      ap (λ bs. first-magnitude (file-of bs .lines)) alone ∙ ap (λ f. first-magnitude (f .lines)) (unended-alone row (digits-no-end row (r .digits)))
 
   module _ (inside : end < length bytes) where
     split-at : drop start bytes ≡ row ++ getD bytes end 0 ∷ drop (end + 1) bytes

@@ -1,4 +1,4 @@
--- Worked cases of the roll file and the leaver filter, each by computation from the definitions.
+-- Worked cases of the roll files and the leaver filter, each by computation from the definitions.
 use mathlib.Core.List.{List, [], _∷_, map}
 use mathlib.Core.Path.{_≡_}
 use Prim.Native.Nat.{ℕ}
@@ -7,6 +7,7 @@ use lib.IntN.{ℤ, pos, negsuc}
 use Rattle.figures.specs.Kinds.{stands-for-zero}
 use Rattle.figures.specs.Whole.{whole, whole-value}
 use Rattle.figures.specs.declared.whole.Whole.{Whole}
+use Rattle.rolls.specs.Amounts.{read-amounts}
 use Rattle.rolls.specs.Contents.{Contents, all-of, damaged-at, ends}
 use Rattle.rolls.specs.Groups.{kept}
 use Rattle.rolls.specs.Lines.{read-from}
@@ -42,3 +43,17 @@ pub record Worked-cases : Type 0 where
   pub blank : read-from 0 (codes "10\n1 \n") ≡ damaged-after (pos 10 ∷ []) 3
   pub carriage-return : read-from 0 (49 ∷ 13 ∷ 10 ∷ []) ≡ damaged-after [] 0
   pub no-line-end : read-from 0 (codes "1\n2") ≡ damaged-after (pos 1 ∷ []) 2
+  -- amounts
+  pub no-amounts : read-amounts 0 [] ≡ all-of []
+  pub amounts : read-amounts 0 (codes "12.34\n-0.05\n7\n") ≡ all-of (pos 1234 ∷ negsuc 4 ∷ pos 700 ∷ [])
+  pub amount-zeros : read-amounts 0 (codes "-0\n-0.00\n007.50\n") ≡ all-of (pos 0 ∷ pos 0 ∷ pos 750 ∷ [])
+  pub largest-amount : read-amounts 0 (codes "20000000.00\n-20000000\n") ≡ all-of (pos 2000000000 ∷ negsuc 1999999999 ∷ [])
+  pub amount-over-the-range : read-amounts 0 (codes "7\n20000000.01\n") ≡ damaged-after (pos 700 ∷ []) 2
+  pub one-place : read-amounts 0 (codes "1.5\n") ≡ damaged-after [] 0
+  pub three-places : read-amounts 0 (codes "1.500\n") ≡ damaged-after [] 0
+  pub no-place : read-amounts 0 (codes "1.\n") ≡ damaged-after [] 0
+  pub no-units : read-amounts 0 (codes ".50\n") ≡ damaged-after [] 0
+  pub sign-in-the-places : read-amounts 0 (codes "1.-5\n") ≡ damaged-after [] 0
+  pub ten-digits-of-units : read-amounts 0 (codes "0000000001.00\n") ≡ all-of (pos 100 ∷ [])
+  pub eleven-digits-of-units : read-amounts 0 (codes "00000000001.00\n") ≡ damaged-after [] 0
+  pub amount-no-line-end : read-amounts 0 (codes "1.00\n2.00") ≡ damaged-after (pos 100 ∷ []) 5

@@ -6,4 +6,5 @@ pub mod Groups
 pub mod Filters
 pub mod Tallies
 pub mod Reading
+pub mod Amounts
 pub mod Cases

@@ -24,8 +24,8 @@ pub struct TextRoll<'a> {
 // A line that holds a figure, and the place of the line after it.
 #[derive(Clone, Copy)]
 pub struct Line {
-    pub figure: i32,
-    pub next: usize,
+    pub(crate) figure: i32,
+    pub(crate) next: usize,
 }
 
 impl<'a> TextRoll<'a> {
@@ -41,13 +41,13 @@ impl<'a> TextRoll<'a> {
 
 // Digits in a row: the number they write, and the place after the last.
 #[derive(Clone, Copy)]
-struct Digits {
-    value: u64,
-    end: usize,
+pub(crate) struct Digits {
+    pub(crate) value: u64,
+    pub(crate) end: usize,
 }
 
 // The digits from `start` on, at most ten.
-fn read_digits(bytes: &[u8], start: usize) -> Digits
+pub(crate) fn read_digits(bytes: &[u8], start: usize) -> Digits
     requires { ⌜ start ≤ length (now bytes) ⌝ }
     ensures { λ r. ⌜ Digits-read (now (bytes .entry)) start (r .value) (r .end) ⌝ }
 {

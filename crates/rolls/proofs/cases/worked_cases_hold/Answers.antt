@@ -18,4 +18,17 @@ returns c = record {
   blank = refl;
   carriage-return = refl;
   no-line-end = refl;
+  no-amounts = refl;
+  amounts = refl;
+  amount-zeros = refl;
+  largest-amount = refl;
+  amount-over-the-range = refl;
+  one-place = refl;
+  three-places = refl;
+  no-place = refl;
+  no-units = refl;
+  sign-in-the-places = refl;
+  ten-digits-of-units = refl;
+  eleven-digits-of-units = refl;
+  amount-no-line-end = refl;
 }
