@@ -1,3 +1,4 @@
 pub mod Views
 pub mod Earliest
 pub mod Letters
+pub mod Search

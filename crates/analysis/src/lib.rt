@@ -3,4 +3,5 @@
 pub mod bounds;
 mod earliest;
 pub mod letters;
+pub mod search;
 mod tree;
