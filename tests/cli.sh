@@ -60,6 +60,8 @@ expect 0 $'posted: 0\ncount: 11\nstatus: fault 33 at text byte 25: the roll has 
 expect 0 $'posted: 0\ncount: 4\nstatus: going\ncells: 4\n  0: 3\n  1: 0\n  2: 1\n  3: 10' run sum.code three.roll --limit 4 --set 1=77
 expect 0 '{"sizes": {"n": 31, "v": 4, "m": 4, "depth": 2}, "advances": [[1000000, 7]], "count": 7, "posted": [], "status": "fault", "fault": {"number": 34, "place": 25, "roll": 5}, "cells": ["2", "10", "2", "10"]}' run --json sum.code damaged.roll
 expect 0 $'posted: 0\ncount: 11\nstatus: fault 35 at text byte 50: the book is full\ncells: 4\n  0: 2\n  1: 30\n  2: 3\n  3: 20' run sum.code two.roll --book 0
+printf '2.00\n10.50\n-0.25\n' > "$dir/money.roll"
+expect 0 $'posted: 1\n  10.25\ncount: 12\nstatus: end\ncells: 4\n  0: 2.00\n  1: 10.25\n  2: 3.00\n  3: -0.25' run sum.code money.roll --kind hundredths
 expect 1 'refused 25 at operation 26: jump, ROWS or place 0 against its rule' run refused.code two.roll
 expect 1 'ial: refused 43: --set names a named cell by its number' run sum.code two.roll --set 4=1
 expect 1 'ial: `run` takes CODE, ROLL and options; `ial help` explains the commands' run sum.code

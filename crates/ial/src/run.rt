@@ -23,6 +23,8 @@ use machine::ready::Ready;
 use machine::running::Running;
 use machine::status::Standing;
 use machine::status::StandingPartialEq;
+use rolls::amounts::AmountRoll;
+use rolls::amounts::AmountRollRoll;
 use rolls::leavers::LeaverFilter;
 use rolls::leavers::LeaverFilterRoll;
 use rolls::roll::Roll;
@@ -52,7 +54,7 @@ pub(crate) fn report(rt: &LibcRuntime, options: &RunOptions) -> Result<(), Failu
     }
     match options.kind {
         KindName::Whole => filtered(rt, options, &checked, TextRoll::new(bytes.as_slice())),
-        KindName::Hundredths => filtered(rt, options, &checked, TextRoll::new(bytes.as_slice())),
+        KindName::Hundredths => filtered(rt, options, &checked, AmountRoll::new(bytes.as_slice())),
     }
 }
 
