@@ -38,7 +38,7 @@ use Rattle.translator.specs.Running.{Move, on, carried, follow, moved, runs}
 use Rattle.translator.specs.Simulation.{spread, Expressions-run}
 
 -- A cell among the first ones is there in a longer list too, with the figure that the statement machine finds.
-cell-found : {V : Type 0} (kind : Kind V) (cells hidden : List V) (c : ℕ) → c < length cells → (v : V) × (nth (cells ++ hidden) c ≡ Some v) × (figure-in kind cells c ≡ value v)
+pub cell-found : {V : Type 0} (kind : Kind V) (cells hidden : List V) (c : ℕ) → c < length cells → (v : V) × (nth (cells ++ hidden) c ≡ Some v) × (figure-in kind cells c ≡ value v)
 cell-found kind [] hidden c h = absurd (omega arith)
 cell-found kind (v ∷ cells) hidden zero h = (v, refl, refl)
 cell-found kind (v ∷ cells) hidden (suc c) h = cell-found kind cells hidden c (omega arith)
@@ -128,11 +128,11 @@ module _ {V : Type 0} (kind : Kind V) (c : List Entry) where
 
   -- An operation that makes one figure of what lies on the stack, and one that makes a truth value.
   module _ (pc : ℕ) (r : List Entry) (vs : List V) (m : Memory V) where
-    figure-made : (q : Outcome V)
+    pub figure-made : (q : Outcome V)
         → carried (onward (suc pc) r) pc m ((calculation q >>= λ v. gives (v ∷ vs)) >>= λ ws. gives (on ws m)) ≡ follow m q (λ z. runs kind c (suc pc) 0 r (z ∷ vs) m)
     figure-made q = calculation-carried (onward (suc pc) r) pc m q (λ z. z ∷ vs)
 
-    truth-made : (b : Bool)
+    pub truth-made : (b : Bool)
         → carried (onward (suc pc) r) pc m ((calculation (truth kind b) >>= λ v. gives (v ∷ vs)) >>= λ ws. gives (on ws m))
         ≡ follow m (truth-figure kind b) (λ z. runs kind c (suc pc) 0 r (z ∷ vs) m)
     truth-made b = figure-made (truth kind b) ∙ ap (λ q. follow m q (λ z. runs kind c (suc pc) 0 r (z ∷ vs) m)) (truth-is b)

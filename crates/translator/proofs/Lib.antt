@@ -3,3 +3,9 @@ mod Expressions
 mod Behind
 mod Placing
 mod Resuming
+mod Storing
+mod Stepping
+mod Taking
+mod Switching
+mod Looping
+mod Steps

@@ -62,6 +62,7 @@ module _ {V : Type 0} (kind : Kind V) (c : List Entry) (names : Names) (label-at
   second {seen} {h} {a} {b} {s} {t} p = record {
     entries = further c a (size names s) (a + size names s) _ (p .entries) refl ∙ behind names label-at table-at halt-at s h a (size names s) 0 _ (omega arith);
     long = omega (arith, p .long);
+    before = p .before;
     fits = p .fits .1;
     after-named = omega (arith, p .after-named);
     hidden = omega (arith, p .hidden);
@@ -73,6 +74,7 @@ module _ {V : Type 0} (kind : Kind V) (c : List Entry) (names : Names) (label-at
   first-of {seen} {h} {a} {b} {s} {t} p = record {
     entries = p .entries ∙ ap (code-of h a s) (sym (second p .entries));
     long = refl;
+    before = omega (arith, p .long, p .before);
     fits = p .fits .0;
     after-named = p .after-named;
     hidden = omega (arith, p .hidden);
@@ -82,7 +84,7 @@ module _ {V : Type 0} (kind : Kind V) (c : List Entry) (names : Names) (label-at
 
   -- The statement behind a label.
   pub labelled-part : {seen : List ℕ → Bool} {h a b : ℕ} {l : Name} {s : Statement} → P seen h a (labelled l s) b → P seen h a s b
-  labelled-part p = record { entries = p .entries; long = p .long; fits = p .fits; after-named = p .after-named; hidden = p .hidden; labels = p .labels .1; sees = p .sees }
+  labelled-part p = record { entries = p .entries; long = p .long; before = p .before; fits = p .fits; after-named = p .after-named; hidden = p .hidden; labels = p .labels .1; sees = p .sees }
 
   -- The statement that an if governs, and the HERE behind it.
   pub behind-if : {seen : List ℕ → Bool} {h a b p : ℕ} {e : Exp} {s : Statement} → P seen h a (conditional p e s) b
@@ -102,6 +104,7 @@ module _ {V : Type 0} (kind : Kind V) (c : List Entry) (names : Names) (label-at
         ∙ behind-exp names e (exp-size e + 1) 1 _ refl
         ∙ ap (code-of h (a + (exp-size e + 2)) s) (sym (behind-if x .0));
     long = refl;
+    before = omega (arith, behind-if x .1, x .before);
     fits = x .fits .1;
     after-named = x .after-named;
     hidden = x .hidden;
@@ -159,7 +162,7 @@ module _ {V : Type 0} (kind : Kind V) (c : List Entry) (names : Names) (label-at
         record {
           elements = q .entries ∙ ap (elements-code names p x h b o 1 a els) (ap (code-of (suc h) b s) (tail ∙ sym after) ∙ sym body);
           long = refl;
-          body = record { entries = body; long = refl; fits = q .fits .2; after-named = omega (arith, q .after-named); hidden = omega (arith, q .hidden); labels = q .labels; sees = q .sees };
+          body = record { entries = body; long = refl; before = omega (arith, end, q .before); fits = q .fits .2; after-named = omega (arith, q .after-named); hidden = omega (arith, q .hidden); labels = q .labels; sees = q .sees };
           behind = after;
           rows = to (d + 3 + 1) (d + 4) c (omega arith) ∙ rows;
           over = refl;

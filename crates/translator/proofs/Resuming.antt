@@ -28,7 +28,7 @@ use Rattle.translator.proofs.Placing.{enter-stands, find-none, find-stands}
 use Rattle.translator.proofs.Expressions.{onward, loaded-on}
 
 -- The operand of the entry at a place.
-operand-there : (p : ℕ) (l : List Entry) (e : Entry) (r : List Entry) → drop p l ≡ e ∷ r → nth (map (λ x. x .operand) l) p ≡ Some (e .operand)
+pub operand-there : (p : ℕ) (l : List Entry) (e : Entry) (r : List Entry) → drop p l ≡ e ∷ r → nth (map (λ x. x .operand) l) p ≡ Some (e .operand)
 operand-there zero [] e r q = cc
 operand-there (suc p) [] e r q = cc
 operand-there zero (x ∷ l) e r q = let h : x ≡ e = cc in ap (λ y. Some (y .operand)) h
@@ -41,6 +41,9 @@ Begins c a = (t : ℕ) × (r : List Entry) × (drop a c ≡ entry Mark t ∷ r)
 pub data Rests (c : List Entry) (a : ℕ) : Type 0 where
   at-mark : (t : ℕ) (r : List Entry) → drop a c ≡ entry Mark t ∷ r → Rests c a
   at-halt : (r : List Entry) → drop a c ≡ plain Halt ∷ r → Rests c a
+
+pub marked : {c : List Entry} {a : ℕ} → Begins c a → Rests c a
+marked b = at-mark (b .0) (b .1) (b .2)
 
 module _ {V : Type 0} (kind : Kind V) (c : List Entry) where
   skip : (pc j : ℕ) (r : List Entry) (vs : List V) (m : Memory V) → runs kind c pc j r vs m ≡ runs kind c (pc + j) 0 (drop j r) vs m
@@ -65,12 +68,12 @@ module _ {V : Type 0} (kind : Kind V) (c : List Entry) where
     pub jump-on : pc < p → carried (onward kind c (suc pc) r) pc m (gives (to p vs n)) ≡ runs kind c p 0 (drop p c) vs n
     jump-on lt = ap (λ b. cond b (runs kind c (suc pc) (p - suc pc) r vs n) (comes-to (state p vs n))) (lt-ltb pc p lt) ∙ far lt
 
-    -- A jump to a MARK, further on or back, ends the step there.
-    pub jump-rests : Begins c p → carried (onward kind c (suc pc) r) pc m (gives (to p vs n)) ≡ comes-to (state p vs n)
+    -- A jump to where a step ends, further on or back, ends the step there.
+    pub jump-rests : Rests c p → carried (onward kind c (suc pc) r) pc m (gives (to p vs n)) ≡ comes-to (state p vs n)
     jump-rests b = pick (ltb pc p) refl
       where
         pick : (x : Bool) → ltb pc p ≡ x → cond x (runs kind c (suc pc) (p - suc pc) r vs n) (comes-to (state p vs n)) ≡ comes-to (state p vs n)
-        pick true h = far (ltb-true pc p h) ∙ rests p (at-mark (b .0) (b .1) (b .2)) vs n
+        pick true h = far (ltb-true pc p h) ∙ rests p b vs n
         pick false h = refl
 
 module _ {V : Type 0} (kind : Kind V) (c : List Entry) (names : Names) (label-at table-at : List ℕ → ℕ) (halt-at v m : ℕ) (outer : List ℕ → Bool) where
@@ -166,7 +169,7 @@ module _ {V : Type 0} (kind : Kind V) (c : List Entry) (names : Names) (label-at
     }
     next-resumes {seen} {hb} {h} {l} {a = a} e (e′ ∷ es) x low q after pc r N behind lt = record {
       at = a + element-size names (type-of names (l .control)) e;
-      is = jump-rests kind c pc (a + element-size names (type-of names (l .control)) e) r [] N M behind (element-begins e′ es (next-placed e e′ es x));
+      is = jump-rests kind c pc (a + element-size names (type-of names (l .control)) e) r [] N M behind (marked (element-begins e′ es (next-placed e e′ es x)));
       stands = (
         record { seen = seen; h = h; hb = hb; i = _; a = _; b = _; d = _; o = _; n = _; placed = next-placed e e′ es x; low = low; continues = q },
         refl,
@@ -221,7 +224,7 @@ module _ {V : Type 0} (kind : Kind V) (c : List Entry) (names : Names) (label-at
       at = a + first-size names (type-of names (l .control)) f;
       is =
           dispatch (progression f s u) es x held
-          ∙ jump-rests kind c (d + 3 + i) (a + first-size names (type-of names (l .control)) f) (following (progression f s u) es x) [] M M (behind-row (progression f s u) es x) (addition-begins f s u es x);
+          ∙ jump-rests kind c (d + 3 + i) (a + first-size names (type-of names (l .control)) f) (following (progression f s u) es x) [] M M (behind-row (progression f s u) es x) (marked (addition-begins f s u es x));
       stands = (
         record { seen = around; h = h; hb = hb′; i = i; a = a; b = b; d = d; o = o; n = n; placed = x; low = low; continues = q },
         held,

@@ -94,6 +94,7 @@ module _ {V : Type 0} (kind : Kind V) (c : List Entry) (names : Names) (label-at
   pub record Placed (seen : List ℕ → Bool) (h a : ℕ) (s : Statement) (b : ℕ) : Type 0 where
     pub entries : drop a c ≡ code names label-at table-at halt-at h a s (drop b c)
     pub long : a + size names s ≡ b
+    pub before : b ≤ halt-at
     pub fits : Fits names v s
     pub after-named : v ≤ h
     pub hidden : h + loops names s ≤ m

@@ -5,3 +5,4 @@ pub mod Fits
 pub mod Running
 pub mod Simulation
 pub mod Compiled
+pub mod Agreement

@@ -1,6 +1,7 @@
 // What is proved of the code of a tree.
 
 ghost use Rattle.translator.specs.Cases.{Worked-cases};
+ghost use Rattle.translator.specs.Agreement.{Step-law};
 ghost use Rattle.translator.specs.Simulation.{Expressions-run, Flow-law, Placing-law, Sizes-are-right};
 use figures::kind::Figures;
 
@@ -35,6 +36,13 @@ pub fn placing_law_holds<F: Figures>() -> u8
 // The flow from statement to statement, and to labels, is the flow of the code.
 pub fn flow_law_holds<F: Figures>() -> u8
     ensures { λ _. ⌜ Flow-law (F·Figures .kind) ⌝ }
+{
+    0
+}
+
+// The steps of statements are the steps of their code.
+pub fn step_law_holds<F: Figures>() -> u8
+    ensures { λ _. ⌜ Step-law (F·Figures .kind) ⌝ }
 {
     0
 }
