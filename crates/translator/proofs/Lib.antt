@@ -8,4 +8,8 @@ mod Stepping
 mod Taking
 mod Switching
 mod Looping
+mod Testing
 mod Steps
+mod AllPositions
+mod Bridge
+mod MachineSteps

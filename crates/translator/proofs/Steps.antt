@@ -12,6 +12,7 @@ use Rattle.translator.proofs.Stepping.{sim-assign-whole, sim-assign-indexed, s
 use Rattle.translator.proofs.Taking.{sim-input-whole, sim-input-indexed}
 use Rattle.translator.proofs.Switching.{sim-switch}
 use Rattle.translator.proofs.Looping.{sim-element, sim-addition}
+use Rattle.translator.proofs.Testing.{sim-test}
 
 module _ {V : Type 0} (kind : Kind V) (c : List Entry) (names : Names) (label-at table-at : List ℕ → ℕ) (halt-at v m : ℕ) (outer : List ℕ → Bool) (root : Statement)
     (setting : Setting kind c names label-at table-at halt-at v m outer root) where
@@ -33,6 +34,7 @@ step-law kind c names label-at table-at halt-at v m outer root setting = record 
   ifs = λ p e s k mem hidden unposted a val q. sim-if kind c names label-at table-at halt-at v m outer root setting mem hidden unposted val p e s k a q;
   elements = λ l e es k mem hidden unposted a val q. sim-element kind c names label-at table-at halt-at v m outer root setting mem hidden unposted val l e es k a q;
   additions = λ l f s b es k mem hidden unposted a val q. sim-addition kind c names label-at table-at halt-at v m outer root setting mem hidden unposted val l f s b es k a q;
+  tests = λ l f s b es k mem hidden unposted a val q. sim-test kind c names label-at table-at halt-at v m outer root setting mem hidden unposted val l f s b es k a q;
   inputs = sim-input kind c names label-at table-at halt-at v m outer root setting;
   switches = λ p x e k mem hidden unposted a val q. sim-switch kind c names label-at table-at halt-at v m outer root setting mem hidden unposted val p x e k a q;
   stops = λ p mem hidden unposted a val q. sim-stop kind c names label-at table-at halt-at v m outer root setting mem hidden unposted val p a q;

@@ -6,7 +6,9 @@ use Prim.Native.Nat.{ℕ, suc, _+_, _≤_}
 use lib.ListN.{length, drop}
 use Rattle.std.specs.declared.option.Option.the-variants.{Some}
 use Rattle.grammar.specs.Tree.{Exp, Statement}
-use Rattle.code.specs.declared.operations.Operation.the-variants.{Halt}
+use Rattle.code.specs.declared.operations.Operation.the-variants.{Halt, Mark}
+use Rattle.code.specs.declared.sizes.Sizes.{Sizes}
+use Rattle.code.specs.WellFormed.{Well-formed}
 use Rattle.figures.specs.Kinds.{Kind}
 use Rattle.meaning.specs.Names.{Names}
 use Rattle.meaning.specs.Expressions.{figure}
@@ -14,7 +16,9 @@ use Rattle.meaning.specs.Positions.{Continuation, Position, enter, leave, find,
 use Rattle.meaning.specs.Laws.{has-label}
 use Rattle.meaning.specs.Machine as statements
 use Rattle.machine.specs.Machine as stack
-use Rattle.translator.specs.Generator.{Entry, plain, exp-size, exp-code, size, code}
+use Rattle.machine.specs.Steps.{step}
+use Rattle.translator.specs.Generator.{Entry, entry, plain, exp-size, exp-code, size, code}
+use Rattle.translator.specs.Translation.{laid-out}
 use Rattle.translator.specs.Fits.{Exp-fits}
 use Rattle.translator.specs.Running.{state, runs, follow}
 use Rattle.translator.specs.Compiled.{Placed, Continues, Stands}
@@ -70,3 +74,10 @@ pub record Flow-law {V : Type 0} (kind : Kind V) : Type 0 where
       → (l : List ℕ) {cells : List V} {seen : List ℕ → Bool} {hb a : ℕ} {k : Continuation}
       → Continues kind c names label-at table-at halt-at v m outer cells seen hb a k → seen l ≡ true
       → Stands kind c names label-at table-at halt-at v m outer cells (label-at l) (destination (Some root) l k)
+
+-- In code that passes the check, the stack machine's step from a MARK is the run on the code behind it.
+abbrev pub Steps-are-runs : {V : Type 0} → Kind V → Type 0
+Steps-are-runs {V} kind =
+    (sizes : Sizes) (c : List Entry) → Well-formed (laid-out sizes c) → (a p : ℕ) (r : List Entry) (M : stack.Memory V)
+    → drop a c ≡ entry Mark p ∷ r → length (M .cells) ≡ sizes .cells
+    → step kind (laid-out sizes c) (state a [] M) ≡ runs kind c (suc a) 0 r [] M

@@ -1,8 +1,8 @@
 // What is proved of the code of a tree.
 
 ghost use Rattle.translator.specs.Cases.{Worked-cases};
-ghost use Rattle.translator.specs.Agreement.{Step-law};
-ghost use Rattle.translator.specs.Simulation.{Expressions-run, Flow-law, Placing-law, Sizes-are-right};
+ghost use Rattle.translator.specs.Agreement.{Machine-law, Simulation-law, Step-law};
+ghost use Rattle.translator.specs.Simulation.{Expressions-run, Flow-law, Placing-law, Sizes-are-right, Steps-are-runs};
 use figures::kind::Figures;
 
 // The worked cases hold.
@@ -43,6 +43,27 @@ pub fn flow_law_holds<F: Figures>() -> u8
 // The steps of statements are the steps of their code.
 pub fn step_law_holds<F: Figures>() -> u8
     ensures { λ _. ⌜ Step-law (F·Figures .kind) ⌝ }
+{
+    0
+}
+
+// Whatever the position, the statement machine's step is the code's step from where the position stands.
+pub fn simulation_law_holds<F: Figures>() -> u8
+    ensures { λ _. ⌜ Simulation-law (F·Figures .kind) ⌝ }
+{
+    0
+}
+
+// In code that passes the check, the machine's own step is the run that the laws above speak of.
+pub fn steps_are_runs<F: Figures>() -> u8
+    ensures { λ _. ⌜ Steps-are-runs (F·Figures .kind) ⌝ }
+{
+    0
+}
+
+// In code that passes the check, the stack machine's step agrees with the statement machine's, whatever the position.
+pub fn machine_law_holds<F: Figures>() -> u8
+    ensures { λ _. ⌜ Machine-law (F·Figures .kind) ⌝ }
 {
     0
 }
