@@ -14,7 +14,7 @@ use words::token::Mark;
 
 impl Parser<'_> {
     // A name.
-    pub fn name(&mut self) -> Result<usize, Refusal>
+    pub(crate) fn name(&mut self) -> Result<usize, Refusal>
         requires { ⌜ Ready (now self) ⌝ }
         ensures moves { λ r. ⌜ Moves (now (self .entry)) (now (self .exit)) ⌝ }
         ensures reads { λ r. ⌜ ((levels : ℕ) → Reads Name-at levels (now (self .entry)) (now (self .exit)) (here (goto (begin (a identifier)))) r) ⌝ }
@@ -26,7 +26,7 @@ impl Parser<'_> {
     }
 
     // Names, parted by commas.
-    pub fn names(&mut self) -> Result<usize, Refusal>
+    pub(crate) fn names(&mut self) -> Result<usize, Refusal>
         requires { ⌜ Ready (now self) ⌝ }
         ensures moves { λ r. ⌜ Moves (now (self .entry)) (now (self .exit)) ⌝ }
         ensures reads { λ r. ⌜ ((levels : ℕ) → Reads (Row-at Name-at) levels (now (self .entry)) (now (self .exit)) (here (goto (begin (row identifier)))) r) ⌝ }

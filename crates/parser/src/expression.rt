@@ -17,7 +17,7 @@ use words::token::Mark;
 
 impl Parser<'_> {
     // An expression of rank `rank`.
-    pub fn expression(&mut self, rank: usize, levels: usize) -> Result<usize, Refusal>
+    pub(crate) fn expression(&mut self, rank: usize, levels: usize) -> Result<usize, Refusal>
         requires { ⌜ Ready (now self) ⌝ }
         ensures moves { λ r. ⌜ Moves (now (self .entry)) (now (self .exit)) ⌝ }
         ensures reads { λ r. ⌜ Reads Exp-at levels (now (self .entry)) (now (self .exit)) (here (goto (begin (a (ranked rank))))) r ⌝ }

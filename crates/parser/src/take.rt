@@ -100,7 +100,7 @@ impl Parser<'_> {
     }
 
     // The refusal at the next word, or at the text's end.
-    pub fn refuse(&self, reason: SentenceRefusal) -> Refusal
+    pub(crate) fn refuse(&self, reason: SentenceRefusal) -> Refusal
         requires { ⌜ Ready (now self) ⌝ }
         ensures reason { λ r. ⌜ r .reason ≡ reason ⌝ }
         ensures place { λ r. ⌜ r .place ≡ place-of (length (now (self .entry) .text .now)) (ahead (now (self .entry))) ⌝ }
@@ -118,7 +118,7 @@ impl Parser<'_> {
     }
 
     // The place of the next word, or the text's end.
-    pub fn place(&self) -> usize
+    pub(crate) fn place(&self) -> usize
         requires { ⌜ Ready (now self) ⌝ }
         ensures { λ r. ⌜ r ≡ place-of (length (now (self .entry) .text .now)) (ahead (now (self .entry))) ⌝ }
     {
@@ -129,7 +129,7 @@ impl Parser<'_> {
     }
 
     // Is the next word the mark?
-    pub fn next_is_mark(&self, m: Mark) -> bool
+    pub(crate) fn next_is_mark(&self, m: Mark) -> bool
         requires { ⌜ Ready (now self) ⌝ }
         ensures { λ r. ⌜ heads (the-mark m) (ahead (now (self .entry))) ≡ when r tt ⌝ }
     {
@@ -261,7 +261,7 @@ impl Parser<'_> {
     }
 
     // Passes over the next word.
-    pub fn skip(&mut self)
+    pub(crate) fn skip(&mut self)
         requires ready { ⌜ Ready (now self) ⌝ }
         requires left { ⌜ now self .at < now self .count ⌝ }
         ensures took { λ _. ⌜ Took true (now (self .entry)) (now (self .exit)) ⌝ }
@@ -271,7 +271,7 @@ impl Parser<'_> {
     }
 
     // Passes over the next word if it is the mark.
-    pub fn take_mark(&mut self, m: Mark) -> bool
+    pub(crate) fn take_mark(&mut self, m: Mark) -> bool
         requires { ⌜ Ready (now self) ⌝ }
         ensures is { λ r. ⌜ heads (the-mark m) (ahead (now (self .entry))) ≡ when r tt ⌝ }
         ensures took { λ r. ⌜ Took r (now (self .entry)) (now (self .exit)) ⌝ }
@@ -286,7 +286,7 @@ impl Parser<'_> {
     }
 
     // Passes over the next word if it is the reserved word.
-    pub fn take_keyword(&mut self, k: Keyword) -> bool
+    pub(crate) fn take_keyword(&mut self, k: Keyword) -> bool
         requires { ⌜ Ready (now self) ⌝ }
         ensures is { λ r. ⌜ heads (the-keyword k) (ahead (now (self .entry))) ≡ when r tt ⌝ }
         ensures took { λ r. ⌜ Took r (now (self .entry)) (now (self .exit)) ⌝ }
@@ -301,7 +301,7 @@ impl Parser<'_> {
     }
 
     // Passes over the next word if it is a name, and says which word it is.
-    pub fn take_name(&mut self) -> Option<usize>
+    pub(crate) fn take_name(&mut self) -> Option<usize>
         requires { ⌜ Ready (now self) ⌝ }
         ensures is { λ r. ⌜ r ≡ instead (now (self .entry) .at) (heads a-name (ahead (now (self .entry)))) ⌝ }
         ensures took { λ r. ⌜ Took (isSome r) (now (self .entry)) (now (self .exit)) ⌝ }
@@ -315,7 +315,7 @@ impl Parser<'_> {
     }
 
     // Passes over the next word if it is a number.
-    pub fn take_number(&mut self) -> Option<u32>
+    pub(crate) fn take_number(&mut self) -> Option<u32>
         requires { ⌜ Ready (now self) ⌝ }
         ensures is { λ r. ⌜ r ≡ heads a-number (ahead (now (self .entry))) ⌝ }
         ensures took { λ r. ⌜ Took (isSome r) (now (self .entry)) (now (self .exit)) ⌝ }
@@ -329,7 +329,7 @@ impl Parser<'_> {
     }
 
     // Passes over the next word if it is a sign.
-    pub fn take_sign(&mut self) -> Option<Sign>
+    pub(crate) fn take_sign(&mut self) -> Option<Sign>
         requires { ⌜ Ready (now self) ⌝ }
         ensures is { λ r. ⌜ r ≡ heads a-sign (ahead (now (self .entry))) ⌝ }
         ensures took { λ r. ⌜ Took (isSome r) (now (self .entry)) (now (self .exit)) ⌝ }
@@ -343,7 +343,7 @@ impl Parser<'_> {
     }
 
     // Passes over the next word if it is a relation.
-    pub fn take_relation(&mut self) -> Option<Relation>
+    pub(crate) fn take_relation(&mut self) -> Option<Relation>
         requires { ⌜ Ready (now self) ⌝ }
         ensures is { λ r. ⌜ r ≡ heads a-relation (ahead (now (self .entry))) ⌝ }
         ensures took { λ r. ⌜ Took (isSome r) (now (self .entry)) (now (self .exit)) ⌝ }
@@ -357,7 +357,7 @@ impl Parser<'_> {
     }
 
     // Passes over the next word if it is an operator before an operand, of rank `rank` at least.
-    pub fn take_prefix(&mut self, rank: usize) -> Option<Prefix>
+    pub(crate) fn take_prefix(&mut self, rank: usize) -> Option<Prefix>
         requires { ⌜ Ready (now self) ⌝ }
         ensures is { λ r. ⌜ r ≡ heads (a-prefix rank) (ahead (now (self .entry))) ⌝ }
         ensures took { λ r. ⌜ Took (isSome r) (now (self .entry)) (now (self .exit)) ⌝ }
@@ -371,7 +371,7 @@ impl Parser<'_> {
     }
 
     // Passes over the next word if it is an operator of rank `rank` to `bound`.
-    pub fn take_operator(&mut self, rank: usize, bound: usize) -> Option<Operator>
+    pub(crate) fn take_operator(&mut self, rank: usize, bound: usize) -> Option<Operator>
         requires { ⌜ Ready (now self) ⌝ }
         ensures is { λ r. ⌜ r ≡ heads (an-operator rank bound) (ahead (now (self .entry))) ⌝ }
         ensures took { λ r. ⌜ Took (isSome r) (now (self .entry)) (now (self .exit)) ⌝ }
@@ -385,7 +385,7 @@ impl Parser<'_> {
     }
 
     // Puts a node into the table.
-    pub fn make(&mut self, node: Node) -> usize
+    pub(crate) fn make(&mut self, node: Node) -> usize
         requires ready { ⌜ Ready (now self) ⌝ }
         requires paid { ⌜ now self .made < now self .at ⌝ }
         ensures { λ r. ⌜ Made node r (now (self .entry)) (now (self .exit)) ⌝ }
