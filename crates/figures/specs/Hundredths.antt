@@ -29,6 +29,6 @@ hundredths = record {
   negate = neg_ℤ;
   round = λ h. pos 100 *ℤ nearest_whole h;
   nearest = nearest_whole;
-  less = lt_z;
+  less = int_lt;
   same = λ h k. not (int_lt h k || int_lt k h);
 }

@@ -18,6 +18,6 @@ whole = record {
   negate = neg_ℤ;
   round = λ a. a;
   nearest = λ a. a;
-  less = lt_z;
+  less = int_lt;
   same = λ a b. not (int_lt a b || int_lt b a);
 }

@@ -54,7 +54,7 @@ pub trait Figures: Copy {
 
 // The figure of 0, which every kind has.
 pub fn zero<F: Figures>() -> F
-    ensures { kind.of 0 ≡ value (means result) }
+    ensures { F.Figures.kind.of 0 ≡ value (F.Figures.means result) }
 {
     match F::of(0) {
         Ok(figure) => figure,

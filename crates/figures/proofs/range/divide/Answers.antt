@@ -15,4 +15,4 @@ returns c =
     let small = mag_within a 199999999999 200000000000 c.requires.0 c.requires.1 in
     let fits : SFits w64 (quot_z a b) = let h = mag_quotient a b in record { sfits = omega arith } in
     let exact : to_z w64 (of_z w64 (quot_z (to_z w64 (of_z w64 a)) (widened b))) ≡ quot_z a b = simp to_z-of_z in
-    c.test-range.ensures ∙ ap in_range exact ∙ sym (quotient_by_nonzero a b c.if-divisor-eq0.false)
+    c.test_range.ensures ∙ ap in_range exact ∙ sym (quotient_by_nonzero a b c.if-divisor-eq0.false)

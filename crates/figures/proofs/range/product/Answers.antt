@@ -18,4 +18,4 @@ returns c =
     let cast_fits : SFits w64 (widened a *ℤ widened b) = search rules in
     let fits : SFits w64 (a *ℤ b) = simp to_z-of_z at cast_fits in
     let exact : to_z w64 (of_z w64 (widened a *ℤ widened b)) ≡ a *ℤ b = simp to_z-of_z in
-    c.test-range.ensures ∙ ap in_range (exact ∙ ap₂ (λ x y. x *ℤ y) read_a read_b)
+    c.test_range.ensures ∙ ap in_range (exact ∙ ap₂ (λ x y. x *ℤ y) read_a read_b)

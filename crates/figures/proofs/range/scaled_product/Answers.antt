@@ -19,4 +19,4 @@ returns c =
     let fits : SFits w64 (a *ℤ b) = simp to_z-of_z at cast_fits in
     let part_fits : SFits w64 (quot_z (a *ℤ b) (pos 100)) = omega (arith, ints) in
     let exact : to_z w64 (of_z w64 (quot_z (to_z w64 (of_z w64 (widened a *ℤ widened b))) (pos 100))) ≡ quot_z (a *ℤ b) (pos 100) = simp to_z-of_z in
-    c.test-range.ensures ∙ ap in_range (exact ∙ ap₂ (λ x y. quot_z (x *ℤ y) (pos 100)) read_a read_b)
+    c.test_range.ensures ∙ ap in_range (exact ∙ ap₂ (λ x y. quot_z (x *ℤ y) (pos 100)) read_a read_b)

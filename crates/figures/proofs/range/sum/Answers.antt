@@ -12,4 +12,4 @@ returns c =
     let read_a : a ≡ clamped c.args.a = c.clamp.ensures.value ∙ ap clamped (to_z-of_z w32 c.args.a c.ranges.a) in
     let read_b : b ≡ clamped c.args.b = c.clamp-2.ensures.value ∙ ap clamped (to_z-of_z w32 c.args.b c.ranges.b) in
     let exact : to_z w64 (of_z w64 (widened a +ℤ widened b)) ≡ a +ℤ b = omega (arith, ints) in
-    c.test-range.ensures ∙ ap in_range (exact ∙ ap₂ (λ x y. x +ℤ y) read_a read_b)
+    c.test_range.ensures ∙ ap in_range (exact ∙ ap₂ (λ x y. x +ℤ y) read_a read_b)
