@@ -1,3 +1,5 @@
+#![tactic(auto)]
+
 // The rules on names, types, jumps, bounds and cells, tested over the records of a syntax tree.
 
 pub mod bounds;

@@ -1,3 +1,5 @@
+#![tactic(auto)]
+
 // Stack code: its operations, its check, and its stored form.
 pub mod check;
 pub mod checked;

@@ -1,3 +1,5 @@
+#![tactic(auto)]
+
 // Kinds of figures: what a fund's rule calculates with. The trait and its laws, and two kinds, whole and hundredths.
 
 pub mod cases;

@@ -1,3 +1,5 @@
+#![tactic(auto)]
+
 // The grammar of the language: its syntax trees, its sentences and their defined reading.
 
 pub mod operator;

@@ -1,3 +1,5 @@
+#![tactic(auto)]
+
 // The program `ial`: arguments in, reports out; the work is done by the libraries.
 
 mod arguments;

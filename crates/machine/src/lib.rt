@@ -1,3 +1,5 @@
+#![tactic(auto)]
+
 // The stack machine: runs of checked code over any kind of figures and any roll, a given number of steps at a call.
 pub mod advance;
 mod branch;

@@ -1,3 +1,5 @@
+#![tactic(auto)]
+
 // Cases of the machine, run on hand-assembled code: every operation, every fault, both kinds, odd slicing and the limits.
 pub mod runner;
 

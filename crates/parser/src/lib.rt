@@ -1,3 +1,5 @@
+#![tactic(auto)]
+
 // The parser: from the bytes of a text to its syntax tree, in the records of a lent table.
 
 mod compound;

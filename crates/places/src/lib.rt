@@ -1,3 +1,5 @@
+#![tactic(auto)]
+
 // Where a byte stands in a text: its line and column, and the ends of its line, for messages to people.
 
 ghost use Rattle.std.specs.Prelude.{◌≡◌, ◌+◌, ◌≤◌, length, drop};

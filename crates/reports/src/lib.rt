@@ -1,3 +1,5 @@
+#![tactic(auto)]
+
 // What people read and write of a text: its tree in words, its symbol table, its named cells, the reason and the place of
 // a refusal, and the cells that a setting names.
 

@@ -1,3 +1,5 @@
+#![tactic(auto)]
+
 // Tables of what reports say of a text, and of settings with the cells that they name.
 
 #[cfg(test)]

@@ -1,3 +1,5 @@
+#![tactic(auto)]
+
 // Rolls: where a run takes its figures from. The trait, a roll over a table, rolls over the text of a file of
 // whole figures or of amounts, the leaver filter over any roll, and the count and total of a roll.
 

@@ -1,3 +1,5 @@
+#![tactic(auto)]
+
 // The names of a text: what each one is, its type and its cells, and the rules that names and types obey.
 
 pub mod examples;

@@ -1,3 +1,5 @@
+#![tactic(auto)]
+
 // The words of a text: a pure reader from bytes to tokens that knows nothing of the grammar.
 
 mod bytes;

@@ -1,3 +1,5 @@
+#![tactic(auto)]
+
 // Tables of texts and what the reader says of them: both sides of each limit, and comments in odd places.
 
 #[cfg(test)]

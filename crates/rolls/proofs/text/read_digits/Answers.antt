@@ -4,15 +4,15 @@ use Rattle.rolls.proofs.Digits.{all_digits_push, digit_from_bounds, digits_value
 use Rattle.rolls.proofs.text.read_digits.Goals as goal
 
 -- The value before a turn has at most ten digits.
-pub overflow-mul-value : goal.overflow-mul-value
-overflow-mul-value c =
+pub overflow_mul-value : goal.overflow_mul-value
+overflow_mul-value c =
     let ds = take (c.loop-i.i - c.args.start) (drop c.args.start c.args.bytes.now) in
     let short : length ds ≤ 10 = simp length-take (omega arith) in
     let below = ten_digits_below ds c.loop-i.invariant.0 short in
     omega (arith, c.loop-i.invariant.1)
 
-pub overflow-add-value : goal.overflow-add-value
-overflow-add-value c =
+pub overflow_add-value : goal.overflow_add-value
+overflow_add-value c =
     let ds = take (c.loop-i.i - c.args.start) (drop c.args.start c.args.bytes.now) in
     let short : length ds ≤ 10 = simp length-take (omega arith) in
     let below = ten_digits_below ds c.loop-i.invariant.0 short in
