@@ -127,6 +127,8 @@ def main(words):
         for n, is_type in declared(p).items():
             own[n] = own.get(n, False) or is_type
         local |= bound(p)
+    for p in files(root, (".antt", ".rt")):
+        local |= set(re.findall(r"\bas ([a-z][" + LETTER + r"-]*)", re.sub(r"(--|//)[^\n]*", "", read(p))))
     turned = {}
     for n, is_type in own.items():
         if is_type:

@@ -17,7 +17,7 @@ use Rattle.analysis.specs.LineSearch.{line_letters}
 use Rattle.analysis.specs.Lines.{line_of, word_places, NumberedWords, SoFar}
 use Rattle.analysis.specs.Numbering.{names_among, view_of, names_in, new_line, found_line, number_or, lines_with, WordsOf, Entered, EntersWord, AllEntered}
 use Rattle.analysis.proofs.LineOf.{index_found}
-use Rattle.analysis.proofs.Entering.{x as new-name, other_word, found_is, known_word, room_for_new, new_word}
+use Rattle.analysis.proofs.Entering.{x as new_name, other_word, found_is, known_word, room_for_new, new_word}
 use Rattle.analysis.proofs.WorkTable.{words_set, nodes_set, length_words, word_record, place_of_word}
 
 -- How many lines there are after a word whose line was found or not.
@@ -98,7 +98,7 @@ module _ (text : List ℕ) (rs : List Record) (w n : ℕ) (lines : List NameReco
           let e : WordRecord = (get_or rs w d).word in
           let f = found_is v text rs of e w ns n lines inside so_far m (token_same ∙ is) r in
           let room : n < length lines = room_for_new v text rs of e w ns n lines inside so_far m (token_same ∙ is) r (sym f ∙ h) fits in
-          let more : List Name = ns ++ new-name v text rs of e w ns n lines inside so_far m (token_same ∙ is) r ∷ [] in
+          let more : List Name = ns ++ new_name v text rs of e w ns n lines inside so_far m (token_same ∙ is) r ∷ [] in
           let E : ℕ → List NameRecord → Type 0 = λ a l. Entered v (set rs w r) (w + 1) more a l in
           let a : n' ≡ n + 1 = next None h (λ q. room) in
           let l : lines' ≡ set lines n (new_line w) = after ∙ ap (λ (o : Option ℕ). lines_with lines w n o) h in

@@ -2,7 +2,7 @@
 use Rattle.std.proofs.Common.{◌≡◌, ℕ, zero, suc, ◌+◌, ◌*◌, ◌≤◌, Bool, true, false, cond, List, [], ◌∷◌, ◌++◌, length, sym, refl, ap, ◌∙◌, arith, length-append}
 use Rattle.words.specs.Token.{Token, Word, name, number, keyword, mark, sign, scaling, relation}
 use Rattle.grammar.specs.Tree.{Name, Program}
-use Rattle.grammar.specs.Meaning.{Sentence, name_count, names as name-words}
+use Rattle.grammar.specs.Meaning.{Sentence, name_count, names as name_words}
 use Rattle.grammar.proofs.Names.{few}
 use Rattle.symbols.specs.Occurrences.{Occurrence, occurrences}
 use Rattle.symbols.specs.Symbols.{has_name, with_name, names_from, names, numbered, symbols, kind_of, cells}
@@ -38,7 +38,7 @@ counted (sign s) p = refl
 counted (scaling s) p = refl
 counted (relation r) p = refl
 
-as_many_names : (ws : List Word) → length (named_words ws) ≡ name-words ws
+as_many_names : (ws : List Word) → length (named_words ws) ≡ name_words ws
 as_many_names [] = refl
 as_many_names (w ∷ ws) = omega (arith, length-append (name_at w.token w.place) (named_words ws), counted w.token w.place, as_many_names ws)
 
@@ -52,6 +52,6 @@ small_tables l ws t s h =
     let found : length (names t) ≤ 0 + length (occurrences t) = at_most_occurrences [] (occurrences t) in
     let same : length (named_words ws) ≡ length (names_of (occurrences t)) = ap length (names_in_text l ws t s) in
     let all : length (names_of (occurrences t)) ≡ length (occurrences t) = as_many_occurrences (occurrences t) in
-    let words : length (named_words ws) ≡ name-words ws = as_many_names ws in
-    let half : 2 * name-words ws ≤ length ws + 1 = omega (arith, few s) in
+    let words : length (named_words ws) ≡ name_words ws = as_many_names ws in
+    let half : 2 * name_words ws ≤ length ws + 1 = omega (arith, few s) in
     record { differ = lines_differ t; few = omega arith }

@@ -19,7 +19,7 @@ use Rattle.analysis.specs.declared.declaration.Declaration.TheVariants.{Defined,
 use Rattle.analysis.specs.declared.declaration.Pass.{Pass}
 use Rattle.analysis.specs.declared.declaration.Pass.TheVariants.{Mark, Declare}
 use Rattle.analysis.specs.Earliest.{earliest_of}
-use Rattle.analysis.specs.SymbolTable.{KindAt, label as label-line, switch as switch-line, array as array-line, line_numbers}
+use Rattle.analysis.specs.SymbolTable.{KindAt, label as label_line, switch as switch_line, array as array_line, line_numbers}
 use Rattle.analysis.specs.Kinds.{is_defined_kind, is_target_kind, is_typed_as}
 use Rattle.analysis.specs.Lines.{line_of, NumberedWords, LineSoFar, SoFar}
 use Rattle.analysis.specs.Heeding.{marked_line, declared_line, offends_line, RoleAt, label, switch, array, integer, boolean, TableAt, Heeds}
@@ -111,9 +111,9 @@ module _ {v : View} {m h : List Occurrence} {r : NameRecord} {n : Name} (x : Nam
       }
 
   pub declared_right : {d : Declaration} {role : Role} → RoleAt v d role → LineSoFar v m (h ++ at role x ∷ []) (declared_line d r) n
-  declared_right label = declared_defined Label a_label as_label refl refl label-line refl
-  declared_right (switch {i} {xs} rows) = declared_defined (Switch i) (a_switch xs) (as_switch xs) refl refl (switch-line rows) refl
-  declared_right (array {l = lo} {h = hi}) = declared_defined (Array lo hi) (an_array (bound_in lo) (bound_in hi)) (as_array (bound_in lo) (bound_in hi)) refl refl array-line refl
+  declared_right label = declared_defined Label a_label as_label refl refl label_line refl
+  declared_right (switch {i} {xs} rows) = declared_defined (Switch i) (a_switch xs) (as_switch xs) refl refl (switch_line rows) refl
+  declared_right (array {l = lo} {h = hi}) = declared_defined (Array lo hi) (an_array (bound_in lo) (bound_in hi)) (as_array (bound_in lo) (bound_in hi)) refl refl array_line refl
   declared_right integer = declared_typed Integer refl
   declared_right boolean = declared_typed Boolean refl
 

@@ -7,7 +7,7 @@ ghost use Rattle.symbols.specs.Occurrences.{each};
 ghost use Rattle.symbols.specs.Symbols.{bound_value};
 ghost use Rattle.symbols.specs.Rules.{bounds_ok, group_bounds, item_bounds};
 ghost use Rattle.analysis.specs.Earliest.{earliest_of};
-ghost use Rattle.parser.specs.Records.{nodes as nodes-of};
+ghost use Rattle.parser.specs.Records.{nodes as nodes_of};
 
 use crate::earliest::earlier;
 use crate::tree::node_of;
@@ -34,7 +34,7 @@ fn are_bounds_ok(low: Bound, high: Bound) -> bool
 
 // The offence of the group at node i.
 fn group_offence(records: &[Record], i: usize) -> Option<usize>
-    ensures { (v : View) (g : GroupTree) → v.nodes ≡ nodes-of records.now → GroupAt v g i → result ≡ earliest_of (group_bounds g) }
+    ensures { (v : View) (g : GroupTree) → v.nodes ≡ nodes_of records.now → GroupAt v g i → result ≡ earliest_of (group_bounds g) }
 {
     match node_of(records, i) {
         Node::Group(_, bracket, low, high) => {
@@ -50,7 +50,7 @@ fn group_offence(records: &[Record], i: usize) -> Option<usize>
 
 // The earliest offence of the groups at node i.
 fn groups_offence(records: &[Record], i: usize) -> Option<usize>
-    ensures { (v : View) (gs : Row GroupTree) → v.nodes ≡ nodes-of records.now → RowAt GroupAt v gs i → result ≡ earliest_of (each group_bounds gs) }
+    ensures { (v : View) (gs : Row GroupTree) → v.nodes ≡ nodes_of records.now → RowAt GroupAt v gs i → result ≡ earliest_of (each group_bounds gs) }
 {
     match node_of(records, i) {
         Node::More(before, last) => {
@@ -69,7 +69,7 @@ fn groups_offence(records: &[Record], i: usize) -> Option<usize>
 
 // The earliest offence of the items at node i.
 pub fn bounds_offence(records: &[Record], i: usize) -> Option<usize>
-    ensures { (v : View) (t : Row ItemTree) → v.nodes ≡ nodes-of records.now → RowAt Item_at v t i → result ≡ earliest_of (each item_bounds t) }
+    ensures { (v : View) (t : Row ItemTree) → v.nodes ≡ nodes_of records.now → RowAt Item_at v t i → result ≡ earliest_of (each item_bounds t) }
 {
     match node_of(records, i) {
         Node::More(before, last) => {

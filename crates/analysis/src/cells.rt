@@ -2,7 +2,7 @@
 
 ghost use Rattle.std.specs.Prelude.{◌≡◌, ◌+◌, ◌≤◌, ◌&&◌, length, nat_le, nat_lt};
 ghost use Rattle.parser.specs.Records.{bound_in};
-ghost use Rattle.symbols.specs.Symbols.{bound_value, extent as extent-of};
+ghost use Rattle.symbols.specs.Symbols.{bound_value, extent as extent_of};
 ghost use Rattle.symbols.specs.Types.{told};
 ghost use Rattle.analysis.specs.Earliest.{earliest_of};
 ghost use Rattle.analysis.specs.Counting.{cells_of, PlacesCells};
@@ -17,7 +17,7 @@ use parser::table::Record;
 
 // How many subscripts lie between two bounds.
 fn extent(low: Bound, high: Bound) -> usize
-    ensures count { result ≡ extent-of (bound_value (bound_in low)) (bound_value (bound_in high)) }
+    ensures count { result ≡ extent_of (bound_value (bound_in low)) (bound_value (bound_in high)) }
     ensures small { result ≤ 8589934592 }
 {
     let n = value(high) - value(low) + 1;

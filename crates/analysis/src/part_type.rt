@@ -1,7 +1,7 @@
 // The two types of parts of expressions.
 
 ghost use Rattle.std.specs.Prelude.{◌≡◌};
-ghost use Rattle.symbols.specs.Types.{differs as types-differ, number_differs, part_type, operator_type, prefix_type};
+ghost use Rattle.symbols.specs.Types.{differs as types_differ, number_differs, part_type, operator_type, prefix_type};
 ghost use Rattle.analysis.specs.PartTypes.{part_in};
 
 use grammar::operator::{Operator, Prefix};
@@ -15,7 +15,7 @@ pub enum PartType {
 
 // Is a part of one type where the other is wanted?
 pub fn differs(want: PartType, t: PartType) -> bool
-    ensures { result ≡ types-differ (part_in want) (part_in t) }
+    ensures { result ≡ types_differ (part_in want) (part_in t) }
 {
     match (want, t) {
         (PartType::Arithmetic, PartType::Arithmetic) => false,

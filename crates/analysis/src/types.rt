@@ -2,10 +2,10 @@
 
 ghost use Rattle.std.specs.Prelude.{◌≡◌, List};
 ghost use Rattle.grammar.specs.Tree.{Name as NameTree, Exp, first_byte, Variable as VariableTree};
-ghost use Rattle.parser.specs.Records.{View, nodes as nodes-of, Named, ExpAt, VariableAt, ElementAt, RowAt, Item_at};
+ghost use Rattle.parser.specs.Records.{View, nodes as nodes_of, Named, ExpAt, VariableAt, ElementAt, RowAt, Item_at};
 ghost use Rattle.symbols.specs.Occurrences.{each};
 ghost use Rattle.symbols.specs.Symbols.{Symbol};
-ghost use Rattle.symbols.specs.Types.{told as told_at, differs as types-differ, name_type, variable_type, exp_offences, element_offences, wrong_types};
+ghost use Rattle.symbols.specs.Types.{told as told_at, differs as types_differ, name_type, variable_type, exp_offences, element_offences, wrong_types};
 ghost use Rattle.analysis.specs.Earliest.{earliest_of};
 ghost use Rattle.analysis.specs.SymbolTable.{HoldsSymbols};
 ghost use Rattle.analysis.specs.NameLines.{HoldsPlaces};
@@ -31,7 +31,7 @@ fn name_type(records: &[Record], names: &[NameRecord], w: usize) -> PartType
 
 // The offence of the name that word w is.
 fn name_offence(records: &[Record], names: &[NameRecord], want: PartType, w: usize) -> Option<usize>
-    ensures { (v : View) (ss : List Symbol) (x : NameTree) → HoldsSymbols v records.now names.now ss → HoldsPlaces v records.now → Named v w x → result ≡ earliest_of (told_at (types-differ (part_in want) (name_type ss x)) x.place) }
+    ensures { (v : View) (ss : List Symbol) (x : NameTree) → HoldsSymbols v records.now names.now ss → HoldsPlaces v records.now → Named v w x → result ≡ earliest_of (told_at (types_differ (part_in want) (name_type ss x)) x.place) }
 {
     told(
         differs(want, name_type(records, names, w)),
@@ -41,7 +41,7 @@ fn name_offence(records: &[Record], names: &[NameRecord], want: PartType, w: usi
 
 // The place of the first byte of the expression at node i.
 fn first_byte(records: &[Record], i: usize) -> usize
-    ensures { (v : View) (e : Exp) → v.nodes ≡ nodes-of records.now → HoldsPlaces v records.now → ExpAt v e i → result ≡ first_byte e }
+    ensures { (v : View) (e : Exp) → v.nodes ≡ nodes_of records.now → HoldsPlaces v records.now → ExpAt v e i → result ≡ first_byte e }
 {
     match ordered_node(records, i) {
         Node::Literal(_, p) => p,
@@ -57,7 +57,7 @@ fn first_byte(records: &[Record], i: usize) -> usize
 
 // An offence that is told at the first byte of the expression at node i.
 fn told_at_first_byte(records: &[Record], offends: bool, i: usize) -> Option<usize>
-    ensures { (v : View) (e : Exp) → v.nodes ≡ nodes-of records.now → HoldsPlaces v records.now → ExpAt v e i → result ≡ earliest_of (told_at offends (first_byte e)) }
+    ensures { (v : View) (e : Exp) → v.nodes ≡ nodes_of records.now → HoldsPlaces v records.now → ExpAt v e i → result ≡ earliest_of (told_at offends (first_byte e)) }
 {
     if offends {
         Some(first_byte(records, i))

@@ -9,7 +9,7 @@ use Rattle.grammar.specs.declared.operator.Operator.TheVariants.{Equivalence}
 use Rattle.grammar.specs.declared.operator.Prefix.TheVariants.{Negation}
 use Rattle.grammar.specs.Tree.{one, Program, literal, whole, single, stop, action}
 use Rattle.grammar.specs.Classes.{Class, the_mark, the_keyword, a_name, a_number, a_sign, a_relation, a_prefix, an_operator, Content, opens, closes, less}
-use Rattle.grammar.specs.Grammar.{Part, ranked, factor, variable, identifier, bound, group, element, statement, item, Phrase, a, row, program, Tree, Value, Derives, alone, a_name as name-derives, a_whole, a_number as number-derives, a_single, a_stop, a_plain_bound, a_group, an_action}
+use Rattle.grammar.specs.Grammar.{Part, ranked, factor, variable, identifier, bound, group, element, statement, item, Phrase, a, row, program, Tree, Value, Derives, alone, a_name as name_derives, a_whole, a_number as number_derives, a_single, a_stop, a_plain_bound, a_group, an_action}
 use Rattle.grammar.specs.Parser.{Goal, begin, operators, rest, Script, done, word, either, part, goto, within, Around, nothing, waiting, State, at}
 use Rattle.grammar.proofs.Found.{token_of, class_levels}
 use Rattle.grammar.proofs.Yields.{Reaches, Yields, of_any_rank}
@@ -53,18 +53,18 @@ record PartWords (p : Part) : Type 0 where
   derives : (limit d : ℕ) (rs : List Word) → d + levels ≤ limit → Derives (a p) (limit - d) (words ++ rs) rs tree
 
 part_words : (p : Part) → PartWords p
-part_words (ranked r) = record { words = a_word (number 0) ∷ []; tree = literal 0 0; levels = 0; derives = λ limit d rs h. of_any_rank r (number-derives refl) }
-part_words factor = record { words = a_word (number 0) ∷ []; tree = literal 0 0; levels = 0; derives = λ limit d rs h. number-derives refl }
+part_words (ranked r) = record { words = a_word (number 0) ∷ []; tree = literal 0 0; levels = 0; derives = λ limit d rs h. of_any_rank r (number_derives refl) }
+part_words factor = record { words = a_word (number 0) ∷ []; tree = literal 0 0; levels = 0; derives = λ limit d rs h. number_derives refl }
 part_words variable = record { words = a_word (name (120 ∷ [])) ∷ []; tree = whole (record { letters = 120 ∷ []; place = 0 }); levels = 0; derives = λ limit d rs h. a_whole refl }
-part_words identifier = record { words = a_word (name (120 ∷ [])) ∷ []; tree = record { letters = 120 ∷ []; place = 0 }; levels = 0; derives = λ limit d rs h. name-derives refl }
+part_words identifier = record { words = a_word (name (120 ∷ [])) ∷ []; tree = record { letters = 120 ∷ []; place = 0 }; levels = 0; derives = λ limit d rs h. name_derives refl }
 part_words bound = record { words = a_word (number 0) ∷ []; tree = record { sign = Plus; size = 0 }; levels = 0; derives = λ limit d rs h. a_plain_bound refl }
 part_words group = record {
   words = a_word (name (120 ∷ [])) ∷ a_word (mark OpenSquare) ∷ a_word (number 0) ∷ a_word (mark Colon) ∷ a_word (number 0) ∷ a_word (mark CloseSquare) ∷ [];
   tree = record { names = one (record { letters = 120 ∷ []; place = 0 }); bracket = 0; low = record { sign = Plus; size = 0 }; high = record { sign = Plus; size = 0 } };
   levels = 1;
-  derives = λ limit d rs h. a_group {l = limit - suc d} (omega arith) (alone (name-derives refl)) refl (a_plain_bound refl) refl (a_plain_bound refl) refl;
+  derives = λ limit d rs h. a_group {l = limit - suc d} (omega arith) (alone (name_derives refl)) refl (a_plain_bound refl) refl (a_plain_bound refl) refl;
 }
-part_words element = record { words = a_word (number 0) ∷ []; tree = single (literal 0 0); levels = 0; derives = λ limit d rs h. a_single (of_any_rank 1 (number-derives refl)) }
+part_words element = record { words = a_word (number 0) ∷ []; tree = single (literal 0 0); levels = 0; derives = λ limit d rs h. a_single (of_any_rank 1 (number_derives refl)) }
 part_words statement = record { words = a_word (keyword Stop) ∷ []; tree = stop 0; levels = 0; derives = λ limit d rs h. a_stop refl }
 part_words item = record { words = a_word (keyword Stop) ∷ []; tree = action (stop 0); levels = 0; derives = λ limit d rs h. an_action (a_stop refl) }
 

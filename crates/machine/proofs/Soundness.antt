@@ -4,7 +4,7 @@ use Rattle.std.proofs.Common.{◌≡◌, ℕ, zero, suc, ◌+◌, ◌-◌, ◌<�
 use Rattle.std.proofs.lemmas.Bool.{le-leb, lt-ltb, ltb-true}
 use Rattle.std.specs.List.{slice_get}
 use Rattle.figures.specs.Kinds.{Kind, Outcome, value, refused, is_zero}
-use Rattle.rolls.specs.Contents.{Contents, Taken, first, rest, took, refused as untaken, refused_at as untaken-at}
+use Rattle.rolls.specs.Contents.{Contents, Taken, first, rest, took, refused as untaken, refused_at as untaken_at}
 use Rattle.code.specs.declared.descriptor.Descriptor.{Descriptor}
 use Rattle.code.specs.declared.operations.Operation.{Operation}
 use Rattle.code.specs.declared.operations.Operation.TheVariants as op
@@ -111,7 +111,7 @@ module _ {V : Type 0} (kind : Kind V) where
   handed_tries : (t : Taken V) → Tries (λ v. Unit {0}) (handed t)
   handed_tries (took v) = tt
   handed_tries (untaken n) = tt
-  handed_tries (untaken-at n p) = tt
+  handed_tries (untaken_at n p) = tt
 
   taken_tries : (rounded : Bool) (x : ℕ) (i : V) (cells : List V) (roll : Contents V) → NamesCells (length cells) (unpacked x) → Tries (λ (p : List V × Contents V). length p.0 ≡ length cells) (taken_into kind rounded x i cells roll)
   taken_tries rounded x i cells roll h =

@@ -4,7 +4,7 @@
 use Rattle.std.specs.Prelude.{ℕ, ◌+◌, Bool, true, false, cond, not, ◌&&◌, ◌||◌, List, [], ◌∷◌, length, ℤ, pos, negsuc, ◌+ℤ◌, ◌-ℤ◌, Some, None, Option, nat_le, nat_lt, slice_set}
 use Rattle.std.specs.List.{slice_get}
 use Rattle.figures.specs.Kinds.{Kind, Outcome, value, refused, is_zero}
-use Rattle.rolls.specs.Contents.{Contents, Taken, first, rest, took, refused as untaken, refused_at as untaken-at}
+use Rattle.rolls.specs.Contents.{Contents, Taken, first, rest, took, refused as untaken, refused_at as untaken_at}
 use Rattle.code.specs.Codes.{Code}
 use Rattle.code.specs.Descriptors.{unpacked}
 use Rattle.code.specs.declared.descriptor.Descriptor.{Descriptor}
@@ -97,7 +97,7 @@ tabled operands p on n = rows_at (slice_get operands p) >>= λ k. gives (row p k
 abbrev pub handed : {V : Type 0} → Taken V → Attempt V
 handed (took v) = gives v
 handed (untaken n) = fails (record { number = n; roll_place = None })
-handed (untaken-at n place) = fails (record { number = n; roll_place = Some place })
+handed (untaken_at n place) = fails (record { number = n; roll_place = Some place })
 
 module _ {V : Type 0} (kind : Kind V) where
   -- All but figures same as of(0) are true; an answer is of(1) or of(0).

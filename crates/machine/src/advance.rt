@@ -52,7 +52,7 @@ impl Running<'_> {
         requires tall { self.old.code.sizes.depth ≤ length stack.old }
         requires few { self.old.count < 4000000000 }
         requires going { ended (progress_of self.old) ≡ false }
-        ensures run { run_of R.Figure.Figures.means self.new cells.new book.new (holds roll.new) ≡ stepped R.Figure.Figures.kind (run_of R.Figure.Figures.means self.old cells.old book.old (holds roll.old)) }
+        ensures run { run_of R.Figure.Figures.means self.new cells.new book.new (R.holds roll.new) ≡ stepped R.Figure.Figures.kind (run_of R.Figure.Figures.means self.old cells.old book.old (R.holds roll.old)) }
         ensures code { self.new.code ≡ self.old.code }
         ensures count { (self.new.count ≤ self.old.count + 1) × (self.old.count ≤ self.new.count) }
     {
@@ -84,7 +84,7 @@ impl Running<'_> {
         book: &mut [R::Figure],
         roll: &mut R,
     ) -> Result<u64, Refusal>
-        ensures advanced { Advanced R.Figure.Figures.kind steps (length stack.old) (run_of R.Figure.Figures.means self.old cells.old book.old (holds roll.old)) (answer (λ n. n) result) (run_of R.Figure.Figures.means self.new cells.new book.new (holds roll.new)) }
+        ensures advanced { Advanced R.Figure.Figures.kind steps (length stack.old) (run_of R.Figure.Figures.means self.old cells.old book.old (R.holds roll.old)) (answer (λ n. n) result) (run_of R.Figure.Figures.means self.new cells.new book.new (R.holds roll.new)) }
         ensures code { self.new.code ≡ self.old.code }
         ensures sound { SoundHistories R.Figure.Figures.kind (code_in self.old.code) }
     {
@@ -115,7 +115,7 @@ impl Running<'_> {
 
     // The figure of a named cell.
     pub fn ask<F: Figures>(&self, cells: &[F], cell: usize) -> Result<F, Refusal>
-        ensures { Asked (code_in self.now.code) (map means cells.now) cell (answer means result) }
+        ensures { Asked (code_in self.now.code) (map F.means cells.now) cell (answer F.means result) }
     {
         ask_cell(&self.code, cells, cell)
     }

@@ -2,10 +2,10 @@
 
 ghost use Rattle.std.specs.Prelude.{◌≡◌, ◌+◌, ◌-◌, ◌<◌, ◌≤◌, cond, not, ◌&&◌, ◌||◌, length, IfOk, if◌then◌else◌};
 ghost use Rattle.figures.specs.Faults.{outcome};
-ghost use Rattle.figures.specs.Kinds.{is_zero as zero-value};
+ghost use Rattle.figures.specs.Kinds.{is_zero as zero_value};
 ghost use Rattle.code.specs.Descriptors.{unpacked};
 ghost use Rattle.machine.specs.Fits.{CalculationOperand, calculation_takes};
-ghost use Rattle.machine.specs.Machine.{calculated, calculation as calculation-of, element as element-of, is_true as true-value, of_one, of_two};
+ghost use Rattle.machine.specs.Machine.{calculated, calculation as calculation_of, element as element_of, is_true as true_value, of_one, of_two};
 ghost use Rattle.machine.specs.Views.{attempt, operands};
 
 use crate::fault::RunFault;
@@ -16,20 +16,20 @@ use figures::fault::Fault;
 use figures::kind::{Figures, zero};
 
 pub(crate) fn is_zero<F: Figures>(figure: F) -> bool
-    ensures { result ≡ zero-value kind (means figure) }
+    ensures { result ≡ zero_value F.kind (F.means figure) }
 {
     figure.same(zero())
 }
 
 fn is_true<F: Figures>(figure: F) -> bool
-    ensures { result ≡ true-value kind (means figure) }
+    ensures { result ≡ true_value F.kind (F.means figure) }
 {
     !is_zero(figure)
 }
 
 // of(1) or of(0).
 fn truth<F: Figures>(is_so: bool) -> Result<F, Fault>
-    ensures { outcome means result ≡ kind.of (cond is_so 1 0) }
+    ensures { outcome F.means result ≡ F.kind.of (cond is_so 1 0) }
 {
     if is_so { F::of(1) } else { F::of(0) }
 }
@@ -53,7 +53,7 @@ fn alike(left: bool, right: bool) -> bool
 }
 
 fn unary<F: Figures>(calculation: Unary, figure: F) -> Result<F, Fault>
-    ensures { outcome means result ≡ of_one kind calculation (means figure) }
+    ensures { outcome F.means result ≡ of_one F.kind calculation (F.means figure) }
 {
     match calculation {
         Unary::Round => Ok(figure.round()),
@@ -64,7 +64,7 @@ fn unary<F: Figures>(calculation: Unary, figure: F) -> Result<F, Fault>
 }
 
 fn binary<F: Figures>(calculation: Binary, left: F, right: F) -> Result<F, Fault>
-    ensures { outcome means result ≡ of_two kind calculation (means left) (means right) }
+    ensures { outcome F.means result ≡ of_two F.kind calculation (F.means left) (F.means right) }
 {
     match calculation {
         Binary::Add => left.add(right),
@@ -82,7 +82,7 @@ fn binary<F: Figures>(calculation: Binary, left: F, right: F) -> Result<F, Fault
 
 // The fault of a calculation as a run's.
 fn attempted<F: Figures>(res: Result<F, Fault>) -> Result<F, RunFault>
-    ensures { attempt result means ≡ calculation-of (outcome means res) }
+    ensures { attempt result F.means ≡ calculation_of (outcome F.means res) }
 {
     match res {
         Ok(figure) => Ok(figure),
@@ -92,7 +92,7 @@ fn attempted<F: Figures>(res: Result<F, Fault>) -> Result<F, RunFault>
 
 // The cell of the array's element that a subscript names.
 pub(crate) fn element<F: Figures>(operand: u64, subscript: F) -> Result<usize, RunFault>
-    ensures cell { attempt result (λ e. e) ≡ element-of kind operand (means subscript) }
+    ensures cell { attempt result (λ e. e) ≡ element_of F.kind operand (F.means subscript) }
     ensures below { IfOk result (λ e. e < (unpacked operand).first + (unpacked operand).count) }
 {
     let array = Descriptor::unpack(operand);
@@ -114,7 +114,7 @@ pub(crate) fn calculate<F: Figures>(
     requires high { (depth - calculation_takes calculation) + 1 ≤ length stack.old }
     requires tall { depth ≤ length stack.old }
     requires operand { CalculationOperand calculation operand }
-    ensures work { attempt result (λ d. operands means d stack.new) ≡ calculated kind calculation operand (operands means depth stack.old) }
+    ensures work { attempt result (λ d. operands F.means d stack.new) ≡ calculated F.kind calculation operand (operands F.means depth stack.old) }
     ensures depth { IfOk result (λ d. d ≡ (depth - calculation_takes calculation) + 1) }
 {
     match calculation {

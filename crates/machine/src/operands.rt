@@ -10,7 +10,7 @@ use figures::kind::Figures;
 // Lays a figure on the stack.
 pub(crate) fn push<F: Figures>(stack: &mut [F], depth: usize, figure: F)
     requires { depth < length stack.old }
-    ensures { operands means (depth + 1) stack.new ≡ means figure ∷ operands means depth stack.old }
+    ensures { operands F.means (depth + 1) stack.new ≡ F.means figure ∷ operands F.means depth stack.old }
 {
     stack[depth] = figure;
 }
@@ -18,7 +18,7 @@ pub(crate) fn push<F: Figures>(stack: &mut [F], depth: usize, figure: F)
 // The figure over the first `depth`.
 pub(crate) fn figure_over<F: Figures>(stack: &[F], depth: usize) -> F
     requires { depth < length stack.now }
-    ensures { operands means (depth + 1) stack.now ≡ means result ∷ operands means depth stack.now }
+    ensures { operands F.means (depth + 1) stack.now ≡ F.means result ∷ operands F.means depth stack.now }
 {
     stack[depth]
 }
@@ -26,7 +26,7 @@ pub(crate) fn figure_over<F: Figures>(stack: &[F], depth: usize) -> F
 // What a cell holds.
 pub(crate) fn load<F: Figures>(cells: &[F], cell: usize) -> F
     requires { cell < length cells.now }
-    ensures { slice_get (map means cells.now) cell ≡ Some (means result) }
+    ensures { slice_get (map F.means cells.now) cell ≡ Some (F.means result) }
 {
     cells[cell]
 }
@@ -34,8 +34,8 @@ pub(crate) fn load<F: Figures>(cells: &[F], cell: usize) -> F
 // Puts a figure into a place of an array.
 pub(crate) fn put<F: Figures>(figures: &mut [F], place: usize, figure: F)
     requires { place < length figures.old }
-    ensures set { map means figures.new ≡ slice_set (map means figures.old) place (means figure) }
-    ensures stored { stored (map means figures.old) place (means figure) ≡ gives (map means figures.new) }
+    ensures set { map F.means figures.new ≡ slice_set (map F.means figures.old) place (F.means figure) }
+    ensures stored { stored (map F.means figures.old) place (F.means figure) ≡ gives (map F.means figures.new) }
 {
     figures[place] = figure;
 }

@@ -16,7 +16,7 @@ use figures::kind::{Figures, zero};
 // Whether there are just as many cells as the code has.
 pub(crate) fn has_all_cells<F: Figures>(code: &Checked<'_>, cells: &[F]) -> bool
     ensures figures { result ≡ (length cells.now == (code_in code.now).sizes.cells) }
-    ensures values { result ≡ (length (map means cells.now) == (code_in code.now).sizes.cells) }
+    ensures values { result ≡ (length (map F.means cells.now) == (code_in code.now).sizes.cells) }
 {
     cells.len() == code.sizes().cells as usize
 }
@@ -34,7 +34,7 @@ pub fn prepare<'a, F: Figures>(
     code: &Checked<'a>,
     cells: &mut [F],
 ) -> Result<(), Refusal>
-    ensures { Prepared kind (code_in code.now) (ready_code place.old) (map means cells.old) (answer (λ _. tt) result) (ready_code place.new) (map means cells.new) }
+    ensures { Prepared F.kind (code_in code.now) (ready_code place.old) (map F.means cells.old) (answer (λ _. tt) result) (ready_code place.new) (map F.means cells.new) }
 {
     if !has_all_cells(code, cells) {
         return Err(Refusal::CellCount);
@@ -46,7 +46,7 @@ pub fn prepare<'a, F: Figures>(
 
 // Sets every cell to of(0).
 fn fill_with_zero<F: Figures>(cells: &mut [F])
-    ensures { map means cells.new ≡ filled (length cells.old) (map means cells.old) (kind.of 0) }
+    ensures { map F.means cells.new ≡ filled (length cells.old) (map F.means cells.old) (F.kind.of 0) }
 {
     let nought = zero::<F>();
     for cell in cells.iter_mut() {
@@ -60,7 +60,7 @@ pub(crate) fn ask_cell<F: Figures>(
     cells: &[F],
     cell: usize,
 ) -> Result<F, Refusal>
-    ensures { Asked (code_in code.now) (map means cells.now) cell (answer means result) }
+    ensures { Asked (code_in code.now) (map F.means cells.now) cell (answer F.means result) }
 {
     if !has_all_cells(code, cells) {
         return Err(Refusal::CellCount);
@@ -97,7 +97,7 @@ impl<'a> Ready<'a> {
 
     // The figure of a named cell.
     pub fn ask<F: Figures>(&self, cells: &[F], cell: usize) -> Result<F, Refusal>
-        ensures { Asked (ready_code self.now) (map means cells.now) cell (answer means result) }
+        ensures { Asked (ready_code self.now) (map F.means cells.now) cell (answer F.means result) }
     {
         ask_cell(&self.code, cells, cell)
     }

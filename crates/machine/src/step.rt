@@ -5,8 +5,8 @@ ghost use Rattle.code.specs.CheckedCode.{code_in};
 ghost use Rattle.code.specs.Codes.{operation_at};
 ghost use Rattle.code.specs.declared.operations.Operation.TheVariants.{Mark};
 ghost use Rattle.machine.specs.Fits.{Ends, Fits, Follows, operations_left};
-ghost use Rattle.machine.specs.Steps.{ends_step as step-ends, performed, run_to_end, step as step_of_lem};
-ghost use Rattle.machine.specs.Views.{result, state};
+ghost use Rattle.machine.specs.Steps.{ends_step as step_ends, performed, run_to_end, step as step_of};
+ghost use Rattle.machine.specs.Views.{result as answered, state};
 
 use crate::branch::go;
 use crate::calculate::calculate;
@@ -21,20 +21,20 @@ use rolls::roll::Roll;
 
 pub(crate) fn operation_at(code: &Checked<'_>, place: usize) -> Operation
     requires { place < length (code_in code.now).operations }
-    ensures* { λ r. ⌜ operation_at (code_in code.now).operations place ≡ Some r ⌝ }
+    ensures { operation_at (code_in code.now).operations place ≡ Some result }
 {
     decoded(code.operations()[place])
 }
 
 pub(crate) fn operand_at(code: &Checked<'_>, place: usize) -> u64
     requires { place < length (code_in code.now).operations }
-    ensures* { λ r. ⌜ r ≡ slice_index (code_in code.now).operands place ⌝ }
+    ensures { result ≡ slice_index (code_in code.now).operands place }
 {
     code.operands()[place]
 }
 
 fn ends_step(operation: Operation) -> bool
-    ensures* { λ r. ⌜ r ≡ step-ends operation ⌝ }
+    ensures { result ≡ step_ends operation }
 {
     match operation {
         Operation::Halt | Operation::Mark => true,
@@ -54,9 +54,9 @@ fn perform<R: Roll>(
 ) -> Result<(), RunFault>
     requires fits { Fits (code_in code.now) frame.old.place frame.old.depth (length cells.old) (length stack.old) }
     requires at { operation_at (code_in code.now).operations frame.old.place ≡ Some operation }
-    requires goes { step-ends operation ≡ false }
-    ensures* done { λ r. ⌜ performed R.Figure.Figures.kind (code_in code.now) (state R.Figure.Figures.means frame.old cells.old stack.old book.old (holds roll.old)) ≡ result r (state R.Figure.Figures.means frame.new cells.new stack.new book.new (holds roll.new)) ⌝ }
-    ensures* next { λ r. ⌜ OnOk r (Follows (code_in code.now) frame.old.place frame.new.place frame.new.depth (length cells.old) (length stack.old)) ⌝ }
+    requires goes { step_ends operation ≡ false }
+    ensures done { performed R.Figure.Figures.kind (code_in code.now) (state R.Figure.Figures.means frame.old cells.old stack.old book.old (R.holds roll.old)) ≡ answered result (state R.Figure.Figures.means frame.new cells.new stack.new book.new (R.holds roll.new)) }
+    ensures next { OnOk result (Follows (code_in code.now) frame.old.place frame.new.place frame.new.depth (length cells.old) (length stack.old)) }
 {
     let operand = operand_at(code, frame.place);
     match instruction_of(operation) {
@@ -106,8 +106,8 @@ fn run_to_end<R: Roll>(
     roll: &mut R,
 ) -> Result<(), RunFault>
     requires { Fits (code_in code.now) frame.old.place frame.old.depth (length cells.old) (length stack.old) }
-    ensures* done { λ r. ⌜ ((k : ℕ) → operations_left (code_in code.now) frame.old.place ≤ k → run_to_end R.Figure.Figures.kind (code_in code.now) k (state R.Figure.Figures.means frame.old cells.old stack.old book.old (holds roll.old)) ≡ result r (state R.Figure.Figures.means frame.new cells.new stack.new book.new (holds roll.new))) ⌝ }
-    ensures* next { λ r. ⌜ OnOk r (Ends (code_in code.now) frame.new.place frame.new.depth (length cells.old) (length stack.old)) ⌝ }
+    ensures done { ((k : ℕ) → operations_left (code_in code.now) frame.old.place ≤ k → run_to_end R.Figure.Figures.kind (code_in code.now) k (state R.Figure.Figures.means frame.old cells.old stack.old book.old (R.holds roll.old)) ≡ answered result (state R.Figure.Figures.means frame.new cells.new stack.new book.new (R.holds roll.new))) }
+    ensures next { OnOk result (Ends (code_in code.now) frame.new.place frame.new.depth (length cells.old) (length stack.old)) }
 {
     'operations: loop {
         let operation = operation_at(code, frame.place);
@@ -129,8 +129,8 @@ pub(crate) fn step<R: Roll>(
 ) -> Result<(), RunFault>
     requires fits { Fits (code_in code.now) frame.old.place frame.old.depth (length cells.old) (length stack.old) }
     requires mark { operation_at (code_in code.now).operations frame.old.place ≡ Some Mark }
-    ensures* done { λ r. ⌜ step_of_lem R.Figure.Figures.kind (code_in code.now) (state R.Figure.Figures.means frame.old cells.old stack.old book.old (holds roll.old)) ≡ result r (state R.Figure.Figures.means frame.new cells.new stack.new book.new (holds roll.new)) ⌝ }
-    ensures* next { λ r. ⌜ OnOk r (Ends (code_in code.now) frame.new.place frame.new.depth (length cells.old) (length stack.old)) ⌝ }
+    ensures done { step_of R.Figure.Figures.kind (code_in code.now) (state R.Figure.Figures.means frame.old cells.old stack.old book.old (R.holds roll.old)) ≡ answered result (state R.Figure.Figures.means frame.new cells.new stack.new book.new (R.holds roll.new)) }
+    ensures next { OnOk result (Ends (code_in code.now) frame.new.place frame.new.depth (length cells.old) (length stack.old)) }
 {
     frame.place += 1;
     run_to_end(code, frame, cells, stack, book, roll)

@@ -6,7 +6,7 @@ ghost use Rattle.rolls.specs.Endings.{taken};
 ghost use Rattle.code.specs.Descriptors.{unpacked};
 ghost use Rattle.code.specs.WellFormed.{NamesCells};
 ghost use Rattle.machine.specs.Fits.{transfer_leaves, TransferOperand, transfer_takes};
-ghost use Rattle.machine.specs.Machine.{handed as handed-over, posted_in, taken_into, transferred};
+ghost use Rattle.machine.specs.Machine.{handed as handed_over, posted_in, taken_into, transferred};
 ghost use Rattle.machine.specs.Views.{attempt, operands, valued};
 
 use crate::calculate::element;
@@ -28,7 +28,7 @@ pub(crate) fn transfer_figure<F: Figures>(
     requires high { (depth - transfer_takes transfer) + transfer_leaves transfer ≤ length stack.old }
     requires tall { depth ≤ length stack.old }
     requires operand { TransferOperand transfer operand (length cells.old) }
-    ensures work { attempt result (λ d. (operands means d stack.new, map means cells.new)) ≡ transferred kind transfer operand (operands means depth stack.old) (map means cells.old) }
+    ensures work { attempt result (λ d. (operands F.means d stack.new, map F.means cells.new)) ≡ transferred F.kind transfer operand (operands F.means depth stack.old) (map F.means cells.old) }
     ensures depth { MatchResult result (λ d. d ≡ (depth - transfer_takes transfer) + transfer_leaves transfer) (λ _. cells.new ≡ cells.old) }
 {
     match transfer {
@@ -57,7 +57,7 @@ pub(crate) fn transfer_figure<F: Figures>(
 
 // The ending of a roll as a run's fault.
 fn handed<F>(res: Result<F, Ending>) -> Result<F, RunFault>
-    ensures { attempt result (λ x. x) ≡ handed-over (taken res) }
+    ensures { attempt result (λ x. x) ≡ handed_over (taken res) }
 {
     match res {
         Ok(figure) => Ok(figure),
@@ -66,7 +66,7 @@ fn handed<F>(res: Result<F, Ending>) -> Result<F, RunFault>
 }
 
 fn rounded_if<F: Figures>(is_rounded: bool, figure: F) -> F
-    ensures { means result ≡ cond is_rounded (kind.round (means figure)) (means figure) }
+    ensures { F.means result ≡ cond is_rounded (F.kind.round (F.means figure)) (F.means figure) }
 {
     if is_rounded { figure.round() } else { figure }
 }
@@ -80,8 +80,8 @@ pub(crate) fn take_into<R: Roll>(
     roll: &mut R,
 ) -> Result<(), RunFault>
     requires { NamesCells (length cells.old) (unpacked operand) }
-    ensures work { attempt result (λ _. (map R.Figure.Figures.means cells.new, valued R.Figure.Figures.means (holds roll.new))) ≡ taken_into R.Figure.Figures.kind is_rounded operand (R.Figure.Figures.means subscript) (map R.Figure.Figures.means cells.old) (valued R.Figure.Figures.means (holds roll.old)) }
-    ensures kept { OnErr result ((cells.new ≡ cells.old) × (holds roll.new ≡ holds roll.old)) }
+    ensures work { attempt result (λ _. (map R.Figure.Figures.means cells.new, valued R.Figure.Figures.means (R.holds roll.new))) ≡ taken_into R.Figure.Figures.kind is_rounded operand (R.Figure.Figures.means subscript) (map R.Figure.Figures.means cells.old) (valued R.Figure.Figures.means (R.holds roll.old)) }
+    ensures kept { OnErr result ((cells.new ≡ cells.old) × (R.holds roll.new ≡ R.holds roll.old)) }
 {
     let cell = element(operand, subscript)?;
     let figure = handed(roll.take())?;
@@ -91,7 +91,7 @@ pub(crate) fn take_into<R: Roll>(
 
 // Posts a figure in the book, behind the first `posted`.
 pub(crate) fn post<F: Figures>(book: &mut [F], posted: usize, figure: F) -> Result<(), RunFault>
-    ensures work { attempt result (λ _. map means book.new) ≡ posted_in (map means book.old) posted (means figure) }
+    ensures work { attempt result (λ _. map F.means book.new) ≡ posted_in (map F.means book.old) posted (F.means figure) }
     ensures kept { MatchResult result (λ _. posted < length book.old) (λ _. book.new ≡ book.old) }
 {
     if posted >= book.len() {

@@ -3,7 +3,7 @@
 use Rattle.std.proofs.Common.{◌≡◌, ℕ, suc, ◌+◌, Bool, true, false, cond, ltb, List, [], ◌∷◌, ◌++◌, length, ℤ, pos, negsuc, ◌-ℤ◌, Option, sym, refl, ap, ◌∙◌, subst, append_assoc, append-nil, arith, length-append, ltb-true}
 use Rattle.grammar.specs.Tree.{Name, Exp, Variable, whole, indexed, progression, Statement}
 use Rattle.figures.specs.Kinds.{Kind, Outcome, value, refused}
-use Rattle.rolls.specs.Contents.{HowItEnds, ends, damaged_at, Taken, took, refused as roll-refused, refused_at, first_of, rest_of, first as first-figure}
+use Rattle.rolls.specs.Contents.{HowItEnds, ends, damaged_at, Taken, took, refused as roll_refused, refused_at, first_of, rest_of, first as first_figure}
 use Rattle.meaning.specs.Names.{Names}
 use Rattle.meaning.specs.Expressions.{and_then, is_true, as_stored, at_distance, subscripted_cell}
 use Rattle.meaning.specs.Positions.{Loop, Position, end, at_assignment, at_go, at_switch, at_if, at_input, at_print, at_stop, at_element, at_addition, at_test, turn, enter, leave, next_print, destination}
@@ -47,7 +47,7 @@ pub record Received {V : Type 0} (f : V → Next V) (o : Taken V) (t : State V) 
 
 pub figure_received : {V : Type 0} (p : ℕ) (f : V → Next V) (o : Taken V) (t : State V) → received p f o ≡ next t → Received f o t
 figure_received p f (took v) t e = record { figure = v; was = refl; goes_on = e }
-figure_received p f (roll-refused n) t e = absurd (no_next _ t e)
+figure_received p f (roll_refused n) t e = absurd (no_next _ t e)
 figure_received p f (refused_at n q) t e = absurd (no_next _ t e)
 
 pub end_is_no_next : {V : Type 0} (t : State V) → at_end ≡ next t → ⊥
@@ -64,7 +64,7 @@ module _ {V : Type 0} where
   pub data Change (C : ℕ → Type 0) (m : Memory V) : Memory V → Type 0 where
     unchanged : Change C m m
     stored : (c : ℕ) (v : V) → C c → Change C m (with_cell m c v)
-    taken : (c : ℕ) (v w : V) → C c → first-figure m.roll ≡ took w → Change C m (with_cell (with_rest_of_roll m) c v)
+    taken : (c : ℕ) (v w : V) → C c → first_figure m.roll ≡ took w → Change C m (with_cell (with_rest_of_roll m) c v)
     posted_one : (v : V) → Change C m (with_posted m v)
 
 module _ {V : Type 0} (kind : Kind V) (names : Names) (text : Option Statement) where
@@ -107,7 +107,7 @@ module _ {V : Type 0} (kind : Kind V) (names : Names) (text : Option Statement) 
   store_changes : (C : ℕ → Type 0) (m n : Memory V) (x : Name) (c : ℕ) (v : V) → C c → store kind names text m x c v ≡ value n → Change C m n
   store_changes C m n x c v h e = let s = store_sets m n x c v e in subst (Change C m) s.1 (stored c s.0 h)
 
-  take_changes : (C : ℕ → Type 0) (m n : Memory V) (x : Name) (c : ℕ) (v : V) → C c → first-figure m.roll ≡ took v
+  take_changes : (C : ℕ → Type 0) (m n : Memory V) (x : Name) (c : ℕ) (v : V) → C c → first_figure m.roll ≡ took v
       → store kind names text (with_rest_of_roll m) x c v ≡ value n → Change C m n
   take_changes C m n x c v h f e = let s = store_sets (with_rest_of_roll m) n x c v e in subst (Change C m) s.1 (taken c s.0 v h f)
 
@@ -147,8 +147,8 @@ module _ {V : Type 0} (kind : Kind V) (names : Names) (text : Option Statement) 
       let y = variable_name v in
       let C : ℕ → Type 0 = HasCell names y.letters in
       let put : ℕ → V → Next V = λ c f. worked_out p (on_to (leave k)) (store kind names text (with_rest_of_roll m) y c f) in
-      let w = worked p (λ c. received p (put c) (first-figure m.roll)) (target kind names text m v) t e in
-      let r = figure_received p (put w.result) (first-figure m.roll) t w.goes_on in
+      let w = worked p (λ c. received p (put c) (first_figure m.roll)) (target kind names text m v) t e in
+      let r = figure_received p (put w.result) (first_figure m.roll) t w.goes_on in
       let u = worked p (on_to (leave k)) (store kind names text (with_rest_of_roll m) y w.result r.figure) t r.goes_on in
       reached C m u.result (leave k) t u.goes_on
       (take_changes C m u.result y w.result r.figure (target_is_cell m v w.result w.was) r.was u.was)

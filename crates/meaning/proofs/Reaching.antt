@@ -4,7 +4,7 @@ use Rattle.std.proofs.Common.{◌≡◌, ℕ, Bool, true, false, cond, List, [],
 use Rattle.std.specs.Str.{bytes_eq}
 use Rattle.grammar.specs.Tree.{Row, Name, Exp, Element, single, progression, Statement, labelled, conditional, repeated, assigned, go, switched, input, printed, stop, sequence}
 use Rattle.figures.specs.Kinds.{Kind}
-use Rattle.rolls.specs.Contents.{first as first-figure}
+use Rattle.rolls.specs.Contents.{first as first_figure}
 use Rattle.meaning.specs.Names.{Names}
 use Rattle.meaning.specs.Expressions.{and_then, is_true}
 use Rattle.meaning.specs.Positions.{Loop, Continuation, nothing, rest, turn, Position, end, at_assignment, at_go, at_switch, at_if, at_input, at_print, at_stop, at_element, at_addition, at_test, enter, leave, next_element, next_print, find, find_in_text, destination, kth, beginning}
@@ -148,8 +148,8 @@ module _ (S : Continuation → Statement → Type 0) where
           arrived m (after_if kind names text s k b) t w.goes_on (if_keeps p x s k b h.0 h.1)
       step_keeps m (at_input p v k) t e h =
           let put : ℕ → V → Next V = λ c f. worked_out p (on_to (leave k)) (store kind names text (with_rest_of_roll m) (variable_name v) c f) in
-          let w = worked p (λ c. received p (put c) (first-figure m.roll)) (target kind names text m v) t e in
-          let r = figure_received p (put w.result) (first-figure m.roll) t w.goes_on in
+          let w = worked p (λ c. received p (put c) (first_figure m.roll)) (target kind names text m v) t e in
+          let r = figure_received p (put w.result) (first_figure m.roll) t w.goes_on in
           let u = worked p (on_to (leave k)) (store kind names text (with_rest_of_roll m) (variable_name v) w.result r.figure) t r.goes_on in
           arrived u.result (leave k) t u.goes_on (leave_keeps h.1)
       step_keeps m (at_print p x es k) t e h =

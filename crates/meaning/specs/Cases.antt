@@ -1,7 +1,7 @@
 -- Worked cases: from the bytes of a text through its words, its tree and its symbol table to what the run comes to.
 use Rattle.std.specs.Prelude.{◌≡◌, ℕ, List, [], ◌∷◌, ℤ, pos, negsuc, Some, None, codes}
 use Prim.Native.String.{String}
-use Rattle.symbols.specs.Texts.{Answer, accepted, refused as text-refused, answer}
+use Rattle.symbols.specs.Texts.{Answer, accepted, refused as text_refused, answer}
 use Rattle.figures.specs.Kinds.{Kind, is_zero}
 use Rattle.figures.specs.Whole.{whole}
 use Rattle.figures.specs.Hundredths.{hundredths}
@@ -23,7 +23,7 @@ module _ {V : Type 0} (kind : Kind V) (cells : List V) (roll : Contents V) (book
 
   -- A hundred steps at most.
   abbrev result_for : Answer → Result V
-  result_for (text-refused n p) = refused n p
+  result_for (text_refused n p) = refused n p
   result_for (accepted t) = result_of (advance kind (names_of t) (statements t) 100 (initial (statements t) cells roll book_length))
 
   unfoldable pub comes_of : String → Result V

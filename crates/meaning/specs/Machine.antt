@@ -5,7 +5,7 @@ use Rattle.words.specs.declared.token.Sign.TheVariants.{Plus}
 use Rattle.grammar.specs.declared.operator.Operator.TheVariants.{Additive}
 use Rattle.grammar.specs.Tree.{Name, Exp, simple, joined, Variable, whole, indexed, Element, single, progression, Statement}
 use Rattle.figures.specs.Kinds.{Outcome, value, refused, Kind}
-use Rattle.rolls.specs.Contents.{Contents, Taken, took, refused as roll-refused, refused_at, first as first-figure, rest as rest-of-roll}
+use Rattle.rolls.specs.Contents.{Contents, Taken, took, refused as roll_refused, refused_at, first as first_figure, rest as rest_of_roll}
 use Rattle.meaning.specs.Names.{Names}
 use Rattle.meaning.specs.Expressions.{and_then, both, is_true, as_stored, cell_of, subscripted_cell, figure}
 use Rattle.meaning.specs.Positions.{Loop, Continuation, turn, Position, end, at_assignment, at_go, at_switch, at_if, at_input, at_print, at_stop, at_element, at_addition, at_test, enter, leave, next_element, next_print, destination, kth}
@@ -55,7 +55,7 @@ module _ {V : Type 0} where
   with_cell m c v = record { cells = slice_set m.cells c v; roll = m.roll; posted = m.posted; book_length = m.book_length }
 
   abbrev pub with_rest_of_roll : Memory V → Memory V
-  with_rest_of_roll m = record { cells = m.cells; roll = rest-of-roll m.roll; posted = m.posted; book_length = m.book_length }
+  with_rest_of_roll m = record { cells = m.cells; roll = rest_of_roll m.roll; posted = m.posted; book_length = m.book_length }
 
   abbrev pub with_posted : Memory V → V → Memory V
   with_posted m v = record { cells = m.cells; roll = m.roll; posted = m.posted ++ (v ∷ []); book_length = m.book_length }
@@ -67,7 +67,7 @@ module _ {V : Type 0} where
 
   abbrev pub received : ℕ → (V → Next V) → Taken V → Next V
   received p f (took v) = f v
-  received p f (roll-refused n) = faults (record { number = n; place = p; roll_place = None })
+  received p f (roll_refused n) = faults (record { number = n; place = p; roll_place = None })
   received p f (refused_at n q) = faults (record { number = n; place = p; roll_place = Some q })
 
   -- A posted figure; 35 where the book is full.
@@ -149,7 +149,7 @@ module _ {V : Type 0} (kind : Kind V) (names : Names) (text : Option Statement) 
   step_at m (at_switch p x e k) = worked_out p (λ v. on_to (after_switch x k v) m) (figure_of m e)
   step_at m (at_if p e s k) = worked_out p (λ v. on_to (after_if s k (is_true kind v)) m) (figure_of m e)
   step_at m (at_input p v k) =
-      worked_out p (λ c. received p (λ w. worked_out p (on_to (leave k)) (store (with_rest_of_roll m) (variable_name v) c w)) (first-figure m.roll))
+      worked_out p (λ c. received p (λ w. worked_out p (on_to (leave k)) (store (with_rest_of_roll m) (variable_name v) c w)) (first_figure m.roll))
       (target m v)
   step_at m (at_print p e es k) = worked_out p (on_to (next_print p k es)) (and_then (post m) (figure_of m e))
   step_at m (at_stop p) = on_to end m

@@ -3,13 +3,13 @@
 -- two limits, 512 records and 32 levels.
 use Rattle.std.specs.Prelude.{◌≡◌, ℕ, ◌<◌, ◌≤◌, cond, List, map, length, take, Ok, Err, Result, nat_lt}
 use Rattle.words.specs.Token.{Word}
-use Rattle.words.specs.Words.{Words, words as words-cut, refused as words-refused, words_of}
+use Rattle.words.specs.Words.{Words, words as words_cut, refused as words_refused, words_of}
 use Rattle.words.specs.Records.{word_in}
 use Rattle.words.specs.Refusal.{number as word_number}
 use Rattle.grammar.specs.declared.refusal.SentenceRefusal.TheVariants.{TableTooShort}
 use Rattle.grammar.specs.Tree.{Program}
-use Rattle.grammar.specs.Parser.{Outcome, tree, refused as sentence-refused, parsed}
-use Rattle.grammar.specs.Refusal.{number as sentence-number}
+use Rattle.grammar.specs.Parser.{Outcome, tree, refused as sentence_refused, parsed}
+use Rattle.grammar.specs.Refusal.{number as sentence_number}
 use Rattle.parser.specs.declared.refusal.Refusal.{Refusal}
 use Rattle.parser.specs.declared.refusal.ParseRefusal.{ParseRefusal}
 use Rattle.parser.specs.declared.parse.Sentence.{Sentence}
@@ -24,15 +24,15 @@ pub data Reading : Type 0 where
 
 abbrev pub of_outcome : List Word → Outcome → Reading
 of_outcome ws (tree t) = sentence ws t
-of_outcome ws (sentence-refused e p) = refused (sentence-number e) p
+of_outcome ws (sentence_refused e p) = refused (sentence_number e) p
 
 abbrev pub of_words : ℕ → Words → Reading
-of_words end (words-cut ws) = of_outcome ws (parsed 32 end ws)
-of_words end (words-refused e p) = refused (word_number e) p
+of_words end (words_cut ws) = of_outcome ws (parsed 32 end ws)
+of_words end (words_refused e p) = refused (word_number e) p
 
 -- The reading of a text with a table of so many records.
 abbrev pub reading : List ℕ → ℕ → Reading
-reading text size = cond (nat_lt size 512) (refused (sentence-number TableTooShort) 0) (of_words (length text) (words_of text))
+reading text size = cond (nat_lt size 512) (refused (sentence_number TableTooShort) 0) (of_words (length text) (words_of text))
 
 -- The words that the first n records of a table hold.
 abbrev pub first_words : List ℕ → List Record → ℕ → List Word
@@ -49,7 +49,7 @@ pub record WordsParsed (text : List ℕ) (before : List Record) (n : ℕ) (i : �
 
 abbrev pub ParsesWords : List ℕ → List Record → ℕ → Result ℕ Refusal → List Record → Type 0
 ParsesWords text before n (Ok i) after = WordsParsed text before n i after
-ParsesWords text before n (Err e) after = parsed 32 (length text) (first_words text before n) ≡ sentence-refused e.reason e.place
+ParsesWords text before n (Err e) after = parsed 32 (length text) (first_words text before n) ≡ sentence_refused e.reason e.place
 
 -- A text was read: its words and its tree are those defined; the words stand first in the table, and the tree at its
 -- root, whose number is less than that of the words.
@@ -57,7 +57,7 @@ pub record SentenceRead (text : List ℕ) (before : List Record) (s : Sentence) 
   pub found : List Word
   pub program : Program
   pub result : reading text (length before) ≡ sentence found program
-  pub cut : words_of text ≡ words-cut found
+  pub cut : words_of text ≡ words_cut found
   pub outcome : parsed 32 (length text) found ≡ tree program
   pub count : s.words ≡ length found
   pub few : s.words ≤ 500

@@ -4,7 +4,7 @@ use Rattle.std.specs.Prelude.{◌≡◌, ℕ, ◌≤◌, cond, ◌||◌, List, l
 use Rattle.words.specs.Token.{Word}
 use Rattle.words.specs.Words.{words, words_of}
 use Rattle.grammar.specs.declared.refusal.SentenceRefusal.TheVariants.{TableTooShort}
-use Rattle.grammar.specs.Refusal.{number as sentence-number}
+use Rattle.grammar.specs.Refusal.{number as sentence_number}
 use Rattle.grammar.specs.Tree.{Program}
 use Rattle.parser.specs.declared.table.Record.{Record}
 use Rattle.parser.specs.Records.{View, nodes, ProgramAt}
@@ -19,7 +19,7 @@ use Rattle.reading.specs.Refusal.{number, place}
 
 -- What is told of a text, with a work table and a name table of so many records.
 abbrev pub told : ℕ → ℕ → List ℕ → Answer
-told records names text = cond (nat_lt names 256 || nat_lt records 512) (refused (sentence-number TableTooShort) 0) (answer text)
+told records names text = cond (nat_lt names 256 || nat_lt records 512) (refused (sentence_number TableTooShort) 0) (answer text)
 
 -- The words of a text as a view of its records has them.
 abbrev pub view : List Word → List Record → View

@@ -2,7 +2,7 @@
 
 ghost use Rattle.std.specs.Prelude.{◌≡◌, suc, MatchResult};
 ghost use Rattle.figures.specs.Kinds.{stands_for_zero};
-ghost use Rattle.rolls.specs.Contents.{first as first-figure, rest};
+ghost use Rattle.rolls.specs.Contents.{first as first_figure, rest};
 ghost use Rattle.rolls.specs.Endings.{taken};
 ghost use Rattle.rolls.specs.Filters.{number};
 ghost use Rattle.rolls.specs.Groups.{IsGroupSize, MadeOver, filtered, left_after, past};
@@ -41,7 +41,7 @@ impl<R> FilterRefusal<R> {
 impl<R: Roll> LeaverFilter<R> {
     // The filter over a roll, with this group size.
     pub fn new(roll: R, group: usize) -> Result<LeaverFilter<R>, FilterRefusal<R>>
-        ensures { MatchResult result (λ f. MadeOver (stands_for_zero R.Figure.Figures.kind R.Figure.Figures.means) group (holds roll) (filtered (stands_for_zero R.Figure.Figures.kind R.Figure.Figures.means) (suc f.behind) f.left (holds f.roll))) (λ e. (IsGroupSize group → ⊥) × (e ≡ GroupSize roll)) }
+        ensures { MatchResult result (λ f. MadeOver (stands_for_zero R.Figure.Figures.kind R.Figure.Figures.means) group (R.holds roll) (filtered (stands_for_zero R.Figure.Figures.kind R.Figure.Figures.means) (suc f.behind) f.left (R.holds f.roll))) (λ e. (IsGroupSize group → ⊥) × (e ≡ GroupSize roll)) }
     {
         if group < 1 || group > 64 {
             return Err(FilterRefusal::GroupSize(roll));
@@ -56,7 +56,7 @@ impl<R: Roll> LeaverFilter<R> {
 
 // Passes over so many figures of a roll.
 fn skip<R: Roll>(roll: &mut R, count: usize)
-    ensures { holds roll.new ≡ past count (holds roll.old) }
+    ensures { R.holds roll.new ≡ past count (R.holds roll.old) }
 {
     for _ in 0..count {
         let _ = roll.take();
@@ -65,8 +65,8 @@ fn skip<R: Roll>(roll: &mut R, count: usize)
 
 // The first figure of the next group that is kept.
 fn next_kept<R: Roll>(roll: &mut R, behind: usize) -> Result<R::Figure, Ending>
-    ensures answer { taken result ≡ first-figure (filtered (stands_for_zero R.Figure.Figures.kind R.Figure.Figures.means) (suc behind) 0 (holds roll.old)) }
-    ensures after { filtered (stands_for_zero R.Figure.Figures.kind R.Figure.Figures.means) (suc behind) (left_after behind result) (holds roll.new) ≡ rest (filtered (stands_for_zero R.Figure.Figures.kind R.Figure.Figures.means) (suc behind) 0 (holds roll.old)) }
+    ensures answer { taken result ≡ first_figure (filtered (stands_for_zero R.Figure.Figures.kind R.Figure.Figures.means) (suc behind) 0 (R.holds roll.old)) }
+    ensures after { filtered (stands_for_zero R.Figure.Figures.kind R.Figure.Figures.means) (suc behind) (left_after behind result) (R.holds roll.new) ≡ rest (filtered (stands_for_zero R.Figure.Figures.kind R.Figure.Figures.means) (suc behind) 0 (R.holds roll.old)) }
 {
     let nought = zero::<R::Figure>();
     loop {

@@ -20,7 +20,7 @@ pub struct Tally<F> {
 
 // One figure more; a sum that was refused stays so.
 fn add_to<F: Figures>(sum: Result<F, Fault>, figure: F) -> Result<F, Fault>
-    ensures { outcome means result ≡ plus kind (outcome means sum) (means figure) }
+    ensures { outcome F.means result ≡ plus F.kind (outcome F.means sum) (F.means figure) }
 {
     match sum {
         Ok(so_far) => so_far.add(figure),
@@ -30,10 +30,10 @@ fn add_to<F: Figures>(sum: Result<F, Fault>, figure: F) -> Result<F, Fault>
 
 // Takes a roll to its end; the count stops at 2^64 - 1.
 pub fn add_up<R: Roll>(roll: &mut R) -> Tally<R::Figure>
-    ensures count { result.count ≡ min (length (holds roll.old).figures) (2 ^ 64 - 1) }
-    ensures sum { outcome R.Figure.Figures.means result.sum ≡ total R.Figure.Figures.kind (map R.Figure.Figures.means (holds roll.old).figures) }
-    ensures ending { stopped {F = R.Figure} result.ending ≡ at_ending (holds roll.old).ending }
-    ensures after { holds roll.new ≡ emptied (holds roll.old) }
+    ensures count { result.count ≡ min (length (R.holds roll.old).figures) (2 ^ 64 - 1) }
+    ensures sum { outcome R.Figure.Figures.means result.sum ≡ total R.Figure.Figures.kind (map R.Figure.Figures.means (R.holds roll.old).figures) }
+    ensures ending { stopped {F = R.Figure} result.ending ≡ at_ending (R.holds roll.old).ending }
+    ensures after { R.holds roll.new ≡ emptied (R.holds roll.old) }
 {
     let mut count: u64 = 0;
     let mut sum = Ok(zero::<R::Figure>());

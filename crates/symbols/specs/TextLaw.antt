@@ -4,7 +4,7 @@ use Rattle.std.specs.Prelude.{◌≡◌, ℕ, ◌⊎◌, List, length}
 use Rattle.words.specs.declared.refusal.WordRefusal.{WordRefusal}
 use Rattle.words.specs.Token.{Word}
 use Rattle.words.specs.Refusal.{number as word_number}
-use Rattle.words.specs.Words.{words, refused as words-refused}
+use Rattle.words.specs.Words.{words, refused as words_refused}
 use Rattle.words.specs.Reading.{Reads}
 use Rattle.grammar.specs.Tree.{Program}
 use Rattle.grammar.specs.Meaning.{Sentence, Impossible, Unfinished, IsTooDeep}
@@ -15,7 +15,7 @@ use Rattle.symbols.specs.Laws.{FirstBroken, KeepsAll}
 
 pub data Told (text : List ℕ) : Answer → Type 0 where
   -- 1 to 4: the text is not read to words.
-  no_words : {r : WordRefusal} {p : ℕ} → Reads text (words-refused r p) → Told text (refused (word_number r) p)
+  no_words : {r : WordRefusal} {p : ℕ} → Reads text (words_refused r p) → Told text (refused (word_number r) p)
   -- 5: the word at p is the first with which no sentence can go on, or the words end where a sentence could go on.
   no_sentence : {ws : List Word} {p : ℕ} → Reads text (words ws) → Impossible ws p ⊎ ((p ≡ length text) × Unfinished ws) → Told text (refused 5 p)
   -- 6: the words up to p begin a sentence, but none within 32 levels.

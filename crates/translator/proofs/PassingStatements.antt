@@ -23,7 +23,7 @@ use Rattle.translator.specs.Compiled.{ExpsFit, Placed, Laid_out}
 use Rattle.translator.proofs.Placing.{second, first_of, labelled_part, behind_if, governed, loop_placed}
 use Rattle.translator.proofs.Resuming.{Begins, element_begins}
 use Rattle.translator.proofs.Bridge.{operation_there}
-use Rattle.translator.proofs.Passing.{operations_of, Passes, straight, mark, here as here-passes, jump, branch, table}
+use Rattle.translator.proofs.Passing.{operations_of, Passes, straight, mark, here as here_passes, jump, branch, table}
 use Rattle.translator.proofs.PassingExpressions.{Packs, Uses, descriptor_names, some_figure, ready_passes, const_passes}
 use Rattle.translator.proofs.PassingLoops.{Sized, room, lands_mark, lands_here, figures, stores, elements_pass, behind_passes}
 
@@ -103,7 +103,7 @@ module _ {V : Type 0} (kind : Kind V) (c : List Entry) (names : Names) (label_at
         let over = f.1 in
         let inner : T k 0 (drop k c) =
         statement_passes s g small.2 (λ o i. uses o (in_right o (in_exp e) (in_statement s) i)) (omega arith)
-        (subst (T d 0) (sym f.0) (here-passes sizes os d b (roomy d (omega arith)) (omega arith) rest)) in
+        (subst (T d 0) (sym f.0) (here_passes sizes os d b (roomy d (omega arith)) (omega arith) rest)) in
         let body : T k 0 (code names label_at table_at halt_at h k s (plain Here ∷ drop b c)) =
         subst (T k 0) (g.entries ∙ ap (code names label_at table_at halt_at h k s) f.0) inner in
         subst (T a 0) (sym q.entries)
@@ -119,7 +119,7 @@ module _ {V : Type 0} (kind : Kind V) (c : List Entry) (names : Names) (label_at
         let d = k + size names s in
         let o = d + 4 + length (all_of es) in
         let ending : T (suc o) 0 (drop (suc o) c) = subst (λ (i : ℕ). Passes sizes (operations_of c) i 0 (drop i c)) (sym over) rest in
-        let out : T o 0 (drop o c) = subst (T o 0) (sym l.out) (here-passes sizes os o (suc o) (roomy o (omega arith)) refl ending) in
+        let out : T o 0 (drop o c) = subst (T o 0) (sym l.out) (here_passes sizes os o (suc o) (roomy o (omega arith)) refl ending) in
         let deep_elements : elements_depth (all_of es) ≤ sizes.depth = omega arith in
         let tail : T d 0 (drop d c) =
         behind_passes kind c names label_at table_at halt_at v m outer sizes sized wide (first es) (Later-of es) l (omega arith) (at_least_one (all_of es) deep_elements) out in

@@ -23,7 +23,7 @@ use Rattle.meaning.specs.Positions.{statement_of, followed_by, statements}
 use Rattle.translator.specs.Generator.{Entry, entry, plain, size, loops}
 use Rattle.translator.specs.Translation.{tables_code, table_place, text_size, text_loops, text_depth, text_label, entries_of, entries, sizes_of, translated}
 use Rattle.translator.specs.Limits.{Limits, Small, TextSmall}
-use Rattle.symbols.specs.Texts.{answer, accepted as accepted-text}
+use Rattle.symbols.specs.Texts.{answer, accepted as accepted_text}
 use Rattle.translator.specs.AcceptedCode.{HasSetting, AcceptedCode}
 use Rattle.translator.proofs.Behind.{further, behind}
 use Rattle.translator.proofs.Resuming.{Begins}
@@ -197,7 +197,7 @@ module _ {V : Type 0} (kind : Kind V) (t : Program) (ok : verdict t ≡ accepted
       passes_to_well_formed sizes c (omega (arith, all_long)) limits.few_operations refl (omega arith) (omega (arith, cells, same)) limits.shallow opens all_passes
 
 -- The code of an accepted text passes, if its statements are set in it.
-pub set_code_passes : {V : Type 0} (kind : Kind V) (text : List ℕ) (t : Program) → answer text ≡ accepted-text t → HasSetting kind t → AcceptedCode t
+pub set_code_passes : {V : Type 0} (kind : Kind V) (text : List ℕ) (t : Program) → answer text ≡ accepted_text t → HasSetting kind t → AcceptedCode t
 set_code_passes kind text t e set =
     let w = well_formed kind t (keeps_all_to_accepted t (from_words text t e).keeps_all) (limits_law text t e) set in
     record { well_formed = w; passes_check = well_formed_to_passes (translated t) w }

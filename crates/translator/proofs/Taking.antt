@@ -5,7 +5,7 @@ use Rattle.grammar.specs.Tree.{Name, Exp, Variable, whole, indexed, Statement}
 use Rattle.symbols.specs.declared.value_type.ValueType.{ValueType}
 use Rattle.symbols.specs.declared.value_type.ValueType.TheVariants.{Untyped, Integer, Boolean}
 use Rattle.figures.specs.Kinds.{Kind, Outcome, value, refused, Counts}
-use Rattle.rolls.specs.Contents.{Contents, Taken, took, refused as ended, refused_at as damaged, first as first-figure, rest as rest-of-roll}
+use Rattle.rolls.specs.Contents.{Contents, Taken, took, refused as ended, refused_at as damaged, first as first_figure, rest as rest_of_roll}
 use Rattle.machine.specs.declared.instruction.Instruction.TheVariants.{Take as Takes}
 use Rattle.machine.specs.Faults.{Fault}
 use Rattle.machine.specs.Machine.{gives, fails, calculation, element, Memory, ResultOf, faults as breaks, with_taken}
@@ -27,15 +27,15 @@ use Rattle.translator.proofs.Stepping.{agrees_by, agrees_for, worked_then, evalu
 module _ {V : Type 0} (kind : Kind V) (c : List Entry) where
   -- What TAKE and TAKEW come to, by what they meet.
   module _ (next : ℕ → List V → Memory V → ResultOf V) (pc d : ℕ) (M : Memory V) (vs : List V) (rounded : Bool) (z : V) where
-    take_on : (j : ℕ) (w : V) → element kind d z ≡ gives j → first-figure M.roll ≡ took w → ltb j (length M.cells) ≡ true
-        → carried next pc M (moved kind c (Takes rounded) d (z ∷ vs) M) ≡ next 0 vs (with_taken M (set M.cells j (cond rounded (kind.round w) w)) (rest-of-roll M.roll))
+    take_on : (j : ℕ) (w : V) → element kind d z ≡ gives j → first_figure M.roll ≡ took w → ltb j (length M.cells) ≡ true
+        → carried next pc M (moved kind c (Takes rounded) d (z ∷ vs) M) ≡ next 0 vs (with_taken M (set M.cells j (cond rounded (kind.round w) w)) (rest_of_roll M.roll))
     take_on j w e f g = rw (e, f, g)
 
-    take_ended : (j n : ℕ) → element kind d z ≡ gives j → first-figure M.roll ≡ ended n
+    take_ended : (j n : ℕ) → element kind d z ≡ gives j → first_figure M.roll ≡ ended n
         → carried next pc M (moved kind c (Takes rounded) d (z ∷ vs) M) ≡ breaks (record { number = n; roll_place = None }) M
     take_ended j n e f = rw (e, f)
 
-    take_damaged : (j n p : ℕ) → element kind d z ≡ gives j → first-figure M.roll ≡ damaged n p
+    take_damaged : (j n p : ℕ) → element kind d z ≡ gives j → first_figure M.roll ≡ damaged n p
         → carried next pc M (moved kind c (Takes rounded) d (z ∷ vs) M) ≡ breaks (record { number = n; roll_place = Some p }) M
     take_damaged j n p e f = rw (e, f)
 
@@ -69,17 +69,17 @@ module _ {V : Type 0} (kind : Kind V) (c : List Entry) (names : Names) (label_at
     there : ltb j (length (mem.cells ++ hidden)) ≡ true
     there = let lt : j < length (mem.cells ++ hidden) = omega (arith, length-append mem.cells hidden, inside) in lt-ltb j (length (mem.cells ++ hidden)) lt
 
-    lands : (w : V) → A N p (on_to (leave k) (taken j w)) (runs kind c (suc pc) 0 (drop b c) [] (with_taken N (set (mem.cells ++ hidden) j w) (rest-of-roll mem.roll)))
+    lands : (w : V) → A N p (on_to (leave k) (taken j w)) (runs kind c (suc pc) 0 (drop b c) [] (with_taken N (set (mem.cells ++ hidden) j w) (rest_of_roll mem.roll)))
     lands w =
         agrees_by kind c names label_at table_at halt_at v m outer
-        (ap (λ cells. runs kind c (suc pc) 0 (drop b c) [] (with_taken N cells (rest-of-roll mem.roll))) (set-append_left mem.cells hidden j w inside)
+        (ap (λ cells. runs kind c (suc pc) 0 (drop b c) [] (with_taken N cells (rest_of_roll mem.roll))) (set-append_left mem.cells hidden j w inside)
         ∙ at_place kind c (suc pc) b (drop b c) [] (spread (taken j w) hidden unposted) next_place)
         (leaves kind c names label_at table_at halt_at v m outer root setting (taken j w) hidden unposted
         (record { named = length-set mem.cells j w ∙ val.named; all = val.all; room = val.room }) N p
         (continues_kept kind c names label_at table_at halt_at v m outer (λ h low lt. named_set_keeps mem.cells hidden j w inside h (omega (arith, val.named))) q))
 
     -- By what the roll hands over.
-    by_roll : (t : ValueType) → (t ≡ Boolean → ⊥) → names.type x.letters ≡ t → (o : Taken V) → first-figure mem.roll ≡ o
+    by_roll : (t : ValueType) → (t ≡ Boolean → ⊥) → names.type x.letters ≡ t → (o : Taken V) → first_figure mem.roll ≡ o
         → A N p (received p (λ w. worked_out p (on_to (leave k)) (and_then (λ u. value (taken j u)) (as_stored kind w t))) o) (runs kind c pc 0 (entry (take_operation names t) d ∷ drop b c) (z ∷ []) N)
     by_roll Untyped typed e (took w) f = agrees_by kind c names label_at table_at halt_at v m outer (take_on kind c onward pc d N [] false z j w is f there) (lands w)
     by_roll Untyped typed e (ended n) f = agrees_by kind c names label_at table_at halt_at v m outer (take_ended kind c onward pc d N [] false z j n is f) (faults n None refl)
@@ -116,7 +116,7 @@ module _ {V : Type 0} (kind : Kind V) (c : List Entry) (names : Names) (label_at
       pc = suc a + exp_size i
 
       next : ℕ → Next V
-      next = λ j. received p (λ w. worked_out p (on_to (leave k)) (store kind names (Some root) (statements.with_rest_of_roll mem) x j w)) (first-figure mem.roll)
+      next = λ j. received p (λ w. worked_out p (on_to (leave k)) (store kind names (Some root) (statements.with_rest_of_roll mem) x j w)) (first_figure mem.roll)
 
       outside : (t : ValueType) → (t ≡ Boolean → ⊥) → (z : V) (n : ℕ) → element kind (cells_at names x) z ≡ fails (record { number = n; roll_place = None })
           → runs kind c pc 0 (entry (take_operation names t) (cells_at names x) ∷ drop q.b c) (z ∷ []) N ≡ breaks (record { number = n; roll_place = None }) N
@@ -128,7 +128,7 @@ module _ {V : Type 0} (kind : Kind V) (c : List Entry) (names : Names) (label_at
           → A N p (worked_out p next o) (runs kind c pc 0 (entry (take_operation names t) (cells_at names x) ∷ drop q.b c) (z ∷ []) N)
       tested z (value j) is =
           by_roll x p pc q.b k (cells_at names x) z j (element_agrees v ext fits kind z ∙ ap calculation is) (element_below v ext fits (kind.nearest z) j is)
-          (omega (arith, q.placed.long)) q.continues t q.placed.fits.1 refl (first-figure mem.roll) refl
+          (omega (arith, q.placed.long)) q.continues t q.placed.fits.1 refl (first_figure mem.roll) refl
       tested z (refused n) is =
           agrees_by kind c names label_at table_at halt_at v m outer (outside t q.placed.fits.1 z n (element_agrees v ext fits kind z ∙ ap calculation is)) (faults n None refl)
 
@@ -144,7 +144,7 @@ module _ {V : Type 0} (kind : Kind V) (c : List Entry) (names : Names) (label_at
         (figure_made kind c (suc a) (entry (take_operation names t) (cells_at names x) ∷ drop q.b c) [] N (kind.of 0)
         ∙ ap (λ o. follow N o (λ z. runs kind c (suc (suc a)) 0 (entry (take_operation names t) (cells_at names x) ∷ drop q.b c) (z ∷ []) N)) zero.given)
         (by_roll x p (suc (suc a)) q.b k (cells_at names x) zero.figure (cell_at names x) names_cell q.placed.fits.0.1
-        (omega (arith, q.placed.long)) q.continues t q.placed.fits.1 refl (first-figure mem.roll) refl);
+        (omega (arith, q.placed.long)) q.continues t q.placed.fits.1 refl (first_figure mem.roll) refl);
   }
     where
       ext : Extent

@@ -2,7 +2,7 @@
 -- statement machine says: the same count, named cells, posted figures and end or fault. All by computation, from the bytes.
 use Rattle.std.specs.Prelude.{◌≡◌, ℕ, zero, suc, ◌-◌, true, false, List, [], ◌∷◌, ◌++◌, take, replicate, ℤ, pos, codes, slice_index}
 use Prim.Native.String.{String}
-use Rattle.symbols.specs.Texts.{Answer, accepted, refused as text-refused, answer}
+use Rattle.symbols.specs.Texts.{Answer, accepted, refused as text_refused, answer}
 use Rattle.figures.specs.Kinds.{Kind}
 use Rattle.figures.specs.Whole.{whole}
 use Rattle.figures.specs.Hundredths.{hundredths}
@@ -10,7 +10,7 @@ use Rattle.rolls.specs.Contents.{Contents, all_of}
 use Rattle.meaning.specs.Runs.{Status, going, over, ended, faulted}
 use Rattle.meaning.specs.Cases.{Result, refused, ran, comes_of, none}
 use Rattle.code.specs.Codes.{Code, operation_at}
-use Rattle.code.specs.Check.{Verdict, passes, refused as code-refused, check}
+use Rattle.code.specs.Check.{Verdict, passes, refused as code_refused, check}
 use Rattle.machine.specs.Machine.{Memory, State, ResultOf, goes, faults, misses}
 use Rattle.machine.specs.Steps.{halts, step}
 use Rattle.translator.specs.Translation.{translated}
@@ -49,10 +49,10 @@ module _ {V : Type 0} (kind : Kind V) (figure : V) (cells : List V) (roll : Cont
 
   abbrev run_checked : Code → Verdict → Result V
   run_checked c passes = run_on c 20 0 (started c)
-  run_checked c (code-refused n i) = refused n 0
+  run_checked c (code_refused n i) = refused n 0
 
   abbrev run_answer : Answer → Result V
-  run_answer (text-refused n p) = refused n p
+  run_answer (text_refused n p) = refused n p
   run_answer (accepted t) = run_checked (translated t) (check (translated t))
 
   unfoldable pub code_comes_of : String → Result V
