@@ -7,34 +7,34 @@ use Rattle.code.proofs.Passing.{answer_to_well_formed}
 use Rattle.code.proofs.Verdicts.{check_bad_sizes, check_cut, cut_code, sizes_ok_cut}
 use Rattle.code.proofs.check.check.Goals as goal
 
-pub returns-then-not-are-lent-sizes-ok : goal.returns-then-not-are-lent-sizes-ok
-returns-then-not-are-lent-sizes-ok c =
+pub returns-then-not-are_lent_sizes_ok : goal.returns-then-not-are_lent_sizes_ok
+returns-then-not-are_lent_sizes_ok c =
     let code = code_of c.args.sizes c.args.operations.now c.args.operands.now in
-    let bad = sizes_ok_cut c.args.sizes c.args.operations.now c.args.operands.now ∙ sym c.are-lent-sizes-ok.ensures ∙ c.if-not-are-lent-sizes-ok.true in
+    let bad = sizes_ok_cut c.args.sizes c.args.operations.now c.args.operands.now ∙ sym c.are_lent_sizes_ok.ensures ∙ c.if-not-are_lent_sizes_ok.true in
     let answer = sym (check_bad_sizes code bad) in
     record { answer = answer; passes = answer_to_well_formed {X = Unit {0}} (Err BadSizes) code answer; after = refl }
 
-pub returns-in-err-check-operations : goal.returns-in-err-check-operations
-returns-in-err-check-operations c =
+pub returns-in_err-check_operations : goal.returns-in_err-check_operations
+returns-in_err-check_operations c =
     let code = code_of c.args.sizes c.args.operations.now c.args.operands.now in
-    let good = sym c.are-lent-sizes-ok.ensures ∙ c.if-not-are-lent-sizes-ok.false in
-    let whole = check_cut c.args.sizes c.args.operations.now c.args.operands.now c.split-at.ensures.front c.split-at-2.ensures.front good in
-    let p = err_from_is_err_and c.from-residual.result c.from-residual.ensures.1 in
-    let answer = c.in-err-check-operations.ensures ∙ whole in
+    let good = sym c.are_lent_sizes_ok.ensures ∙ c.if-not-are_lent_sizes_ok.false in
+    let whole = check_cut c.args.sizes c.args.operations.now c.args.operands.now c.split_at.ensures.front c.split_at-2.ensures.front good in
+    let p = err_from_is_err_and c.from_residual.result c.from_residual.ensures.1 in
+    let answer = c.in_err-check_operations.ensures ∙ whole in
     rw (p.1, p.2) (record { answer = answer; passes = answer_to_well_formed {X = Unit {0}} (Err _) code answer; after = refl })
 
-pub invariant-of-place : goal.invariant-of-place
-invariant-of-place c =
-    let good = sym c.are-lent-sizes-ok.ensures ∙ c.if-not-are-lent-sizes-ok.false in
-    let whole = check_cut c.args.sizes c.args.operations.now c.args.operands.now c.split-at.ensures.front c.split-at-2.ensures.front good in
-    let same = cut_code c.args.sizes c.args.operations.now c.args.operands.now c.split-at.ensures.front c.split-at-2.ensures.front in
-    (ap (λ code. passed (check code)) same ∙ ap passed (sym (c.in-ok-check-operations.ensures ∙ whole)), tt)
+pub invariant_of-place : goal.invariant_of-place
+invariant_of-place c =
+    let good = sym c.are_lent_sizes_ok.ensures ∙ c.if-not-are_lent_sizes_ok.false in
+    let whole = check_cut c.args.sizes c.args.operations.now c.args.operands.now c.split_at.ensures.front c.split_at-2.ensures.front good in
+    let same = cut_code c.args.sizes c.args.operations.now c.args.operands.now c.split_at.ensures.front c.split_at-2.ensures.front in
+    (ap (λ code. passed (check code)) same ∙ ap passed (sym (c.in_ok-check_operations.ensures ∙ whole)), tt)
 
 pub returns : goal.returns
 returns c =
     let code = code_of c.args.sizes c.args.operations.now c.args.operands.now in
-    let good = sym c.are-lent-sizes-ok.ensures ∙ c.if-not-are-lent-sizes-ok.false in
-    let whole = check_cut c.args.sizes c.args.operations.now c.args.operands.now c.split-at.ensures.front c.split-at-2.ensures.front good in
-    let same = cut_code c.args.sizes c.args.operations.now c.args.operands.now c.split-at.ensures.front c.split-at-2.ensures.front in
-    let answer = c.in-ok-check-operations.ensures ∙ whole in
+    let good = sym c.are_lent_sizes_ok.ensures ∙ c.if-not-are_lent_sizes_ok.false in
+    let whole = check_cut c.args.sizes c.args.operations.now c.args.operands.now c.split_at.ensures.front c.split_at-2.ensures.front good in
+    let same = cut_code c.args.sizes c.args.operations.now c.args.operands.now c.split_at.ensures.front c.split_at-2.ensures.front in
+    let answer = c.in_ok-check_operations.ensures ∙ whole in
     record { answer = answer; passes = answer_to_well_formed {X = Unit {0}} (Ok tt) code answer; after = same }

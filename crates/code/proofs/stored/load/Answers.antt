@@ -10,9 +10,9 @@ returns-then-bytes-lt-HEADER c =
 
 pub returns : goal.returns
 returns c =
-    let s = c.read-sizes-sizes.result in
+    let s = c.read_sizes-sizes.result in
     let bs = c.args.bytes.now in
-    let good = sym c.are-lent-sizes-ok.ensures ∙ c.if-not-are-lent-sizes-ok.false in
+    let good = sym c.are_lent_sizes_ok.ensures ∙ c.if-not-are_lent_sizes_ok.false in
     let size : (16 + s.operations) - 16 ≡ s.operations = omega arith in
     let part = take ((16 + s.operations) - 16) (drop 16 bs) in
     let long : length part ≡ s.operations = simp (length-take, length-drop) (omega arith) in
@@ -20,8 +20,8 @@ returns c =
     let os = c.args.operations.now in
     let xs = c.args.operands.now in
     let os' = c.write.new.buffer in
-    let xs' = c.read-operands.new.operands in
+    let xs' = c.read_operands.new.operands in
     record {
-      answer = load_done s bs os xs os' xs' c.read-sizes-sizes.ensures c.if-bytes-count.false good ops c.read-operands.ensures;
-      restores = loaded_to_file bs (λ i. (c.type-inv.bytes i).fits) s os xs os' xs' c.read-sizes-sizes.ensures c.if-bytes-count.false ops c.read-operands.ensures;
+      answer = load_done s bs os xs os' xs' c.read_sizes-sizes.ensures c.if-bytes-count.false good ops c.read_operands.ensures;
+      restores = loaded_to_file bs (λ i. (c.type_inv.bytes i).fits) s os xs os' xs' c.read_sizes-sizes.ensures c.if-bytes-count.false ops c.read_operands.ensures;
     }

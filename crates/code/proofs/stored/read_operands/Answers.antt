@@ -8,4 +8,4 @@ unfolding numbers
 loop-i-init c = refl
 
 pub loop-i-preserved : goal.loop-i-preserved
-loop-i-preserved c = numbers_step c.loop-i.i c.args.at _ c.args.bytes.now c.args.operands.now (omega arith) c.loop-i.invariant c.read-u64.ensures
+loop-i-preserved c = numbers_step c.loop-i.i c.args.at _ c.args.bytes.now c.args.operands.now (omega arith) c.loop-i.invariant c.read_u64.ensures

@@ -5,6 +5,6 @@ use Rattle.code.proofs.stored.read_u32.Goals as goal
 
 pub returns : goal.returns
 returns c =
-    let word = c.copy-from-slice.ensures in
+    let word = c.copy_from_slice.ensures in
     let size : (c.args.at + 4) - c.args.at ≡ 4 = omega arith in
-    c.from-le-bytes.ensures ∙ sym (number_of_4 _ word.len) ∙ ap number_of word.after ∙ ap (λ k. number_of (take k (drop c.args.at c.args.bytes.now))) size
+    c.from_le_bytes.ensures ∙ sym (number_of_4 _ word.len) ∙ ap number_of word.after ∙ ap (λ k. number_of (take k (drop c.args.at c.args.bytes.now))) size

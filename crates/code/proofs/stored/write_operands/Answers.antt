@@ -9,9 +9,9 @@ pub loop-i-preserved : goal.loop-i-preserved
 loop-i-preserved c =
     let step : c.args.at + 8 * (c.loop-i.i + 1) ≡ c.args.at + 8 * c.loop-i.i + 8 = omega arith in
     let here = c.args.at + 8 * c.loop-i.i in
-    let rest = c.write-u64.ensures.rest ∙ drop_beyond here (here + 8) c.args.buffer.now c.loop-i.buffer (omega arith) c.loop-i.invariant.1 in (
-      joined_step c.args.at c.loop-i.i c.args.operands.now (take c.args.at c.args.buffer.now) c.loop-i.buffer _ c.loop-i-test.true c.loop-i.invariant.0 c.write-u64.ensures.front,
-      ap (λ n. drop n c.write-u64.new.buffer) step ∙ rest ∙ ap (λ n. drop n c.args.buffer.now) (sym step),
+    let rest = c.write_u64.ensures.rest ∙ drop_beyond here (here + 8) c.args.buffer.now c.loop-i.buffer (omega arith) c.loop-i.invariant.1 in (
+      joined_step c.args.at c.loop-i.i c.args.operands.now (take c.args.at c.args.buffer.now) c.loop-i.buffer _ c.loop-i-test.true c.loop-i.invariant.0 c.write_u64.ensures.front,
+      ap (λ n. drop n c.write_u64.new.buffer) step ∙ rest ∙ ap (λ n. drop n c.args.buffer.now) (sym step),
     )
 
 pub returns : goal.returns

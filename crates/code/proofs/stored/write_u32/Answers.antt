@@ -4,7 +4,7 @@ use Rattle.code.proofs.stored.write_u32.Goals as goal
 
 pub returns : goal.returns
 returns c =
-    let word = c.to-le-bytes.ensures ∙ bytes_of_4 c.args.x in
+    let word = c.to_le_bytes.ensures ∙ bytes_of_4 c.args.x in
     record {
       front = written_front c.args.at 4 c.args.x _ _ word c.write.ensures.front;
       rest = written_rest c.args.at 4 c.args.x _ _ word c.write.ensures.rest;

@@ -7,5 +7,5 @@ pub returns : goal.returns
 returns c = record {
   unexpected = λ limit end ws p e. five refl (reason_of limit end ws Unexpected p e);
   too_deep = λ limit end ws p e. six refl (reason_of limit end ws TooDeep p e);
-  early-ends = early;
+  early_ends = early;
 }

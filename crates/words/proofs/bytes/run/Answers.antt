@@ -6,14 +6,14 @@ use Rattle.words.proofs.bytes.run.Goals as goal
 
 pub loop-n-preserved : goal.loop-n-preserved
 loop-n-preserved c =
-    let e = prefix_len-drop_yes (in_class c.args.class) c.args.text.now (c.args.from + c.loop-n.n) 0 (omega arith) (sym c.if-is-in.ensures) in
+    let e = prefix_len-drop_yes (in_class c.args.class) c.args.text.now (c.args.from + c.loop-n.n) 0 (omega arith) (sym c.if-is_in.ensures) in
     let a : (c.args.from + c.loop-n.n) + 1 ≡ c.args.from + (c.loop-n.n + 1) = omega arith in
     let g = ap (λ i. prefix_len (in_class c.args.class) (drop i c.args.text.now)) a in
     (omega (arith, e, g, c.loop-n.invariant.0), omega arith)
 
-pub returns-else-is-in : goal.returns-else-is-in
-returns-else-is-in c =
-    let e = prefix_len-drop_no (in_class c.args.class) c.args.text.now (c.args.from + c.loop-n.n) 0 (omega arith) (sym c.if-is-in.ensures) in
+pub returns-else-is_in : goal.returns-else-is_in
+returns-else-is_in c =
+    let e = prefix_len-drop_no (in_class c.args.class) c.args.text.now (c.args.from + c.loop-n.n) 0 (omega arith) (sym c.if-is_in.ensures) in
     record { is = omega (arith, e, c.loop-n.invariant.0); within = c.loop-n.invariant.1 }
 
 pub returns-after-loop-n : goal.returns-after-loop-n

@@ -4,14 +4,14 @@ use Rattle.words.specs.Spelling.{value_after}
 use Rattle.words.proofs.Digits.{digits_to_range, ten_to_next, ten_to_at_most_8}
 use Rattle.words.proofs.bytes.value.Goals as goal
 
-pub overflow-mul-v : goal.overflow-mul-v
-overflow-mul-v c = omega (arith, ten_to_at_most_8 c.loop-b.b-index (omega arith), c.loop-b.invariant.1)
+pub overflow_mul-v : goal.overflow_mul-v
+overflow_mul-v c = omega (arith, ten_to_at_most_8 c.loop-b.b-index (omega arith), c.loop-b.invariant.1)
 
-pub overflow-sub-v : goal.overflow-sub-v
-overflow-sub-v c = (digits_to_range c.args.digits.now c.loop-b.b-index c.loop-b-test.true c.requires.digits).0
+pub overflow_sub-v : goal.overflow_sub-v
+overflow_sub-v c = (digits_to_range c.args.digits.now c.loop-b.b-index c.loop-b-test.true c.requires.digits).0
 
-pub overflow-add-v : goal.overflow-add-v
-overflow-add-v c =
+pub overflow_add-v : goal.overflow_add-v
+overflow_add-v c =
     let d = digits_to_range c.args.digits.now c.loop-b.b-index c.loop-b-test.true c.requires.digits in
     omega (arith, ten_to_at_most_8 c.loop-b.b-index (omega arith), c.loop-b.invariant.1, d.1)
 

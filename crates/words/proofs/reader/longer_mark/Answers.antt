@@ -13,8 +13,8 @@ returns-then-next-text c =
     let here = two_bytes_at t place c.if-next-text.true in
     let room : place + 2 ≤ length t = omega arith in
     record {
-      is = λ o. c.two-byte-mark.ensures.is (drop (place + 2) t) o ∙ sym (ap (λ z. first_of two_byte_marks z o) here);
-      kind = with_fact c.two-byte-mark.result IsMark (place + 2 ≤ length t) c.two-byte-mark.ensures.kind room;
+      is = λ o. c.two_byte_mark.ensures.is (drop (place + 2) t) o ∙ sym (ap (λ z. first_of two_byte_marks z o) here);
+      kind = with_fact c.two_byte_mark.result IsMark (place + 2 ≤ length t) c.two_byte_mark.ensures.kind room;
     }
 
 pub returns : goal.returns

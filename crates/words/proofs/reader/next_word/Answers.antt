@@ -11,26 +11,26 @@ pub returns-then-place-text : goal.returns-then-place-text
 returns-then-place-text c =
     record { is = next_at_end c.args.text.now c.args.at c.run.result c.run.ensures.is (omega (arith, c.if-place-text.true)); advances = tt }
 
-pub returns-then-is-ascii-alphabetic : goal.returns-then-is-ascii-alphabetic
-returns-then-is-ascii-alphabetic c =
+pub returns-then-is_ascii_alphabetic : goal.returns-then-is_ascii_alphabetic
+returns-then-is_ascii_alphabetic c =
     let t = c.args.text.now in
     let at = c.args.at in
     let n = c.run.result in
     record {
-      is = c.read-name.ensures.is
-          ∙ next_is_name t at n c.run.ensures.is (omega (arith, c.run.ensures.within, c.if-place-text.false)) (sym c.if-is-ascii-alphabetic.ensures.value);
-      advances = advances_from_earlier at (at + n) (length t) c.read-name.result (omega arith) c.read-name.ensures.advances;
+      is = c.read_name.ensures.is
+          ∙ next_is_name t at n c.run.ensures.is (omega (arith, c.run.ensures.within, c.if-place-text.false)) (sym c.if-is_ascii_alphabetic.ensures.value);
+      advances = advances_from_earlier at (at + n) (length t) c.read_name.result (omega arith) c.read_name.ensures.advances;
     }
 
-pub returns-then-is-ascii-digit : goal.returns-then-is-ascii-digit
-returns-then-is-ascii-digit c =
+pub returns-then-is_ascii_digit : goal.returns-then-is_ascii_digit
+returns-then-is_ascii_digit c =
     let t = c.args.text.now in
     let at = c.args.at in
     let n = c.run.result in
     record {
-      is = c.read-number.ensures.is
-          ∙ next_is_number t at n c.run.ensures.is (omega (arith, c.run.ensures.within, c.if-place-text.false)) (sym c.if-is-ascii-alphabetic.ensures.value) (sym c.if-is-ascii-digit.ensures.value);
-      advances = advances_from_earlier at (at + n) (length t) c.read-number.result (omega arith) c.read-number.ensures.advances;
+      is = c.read_number.ensures.is
+          ∙ next_is_number t at n c.run.ensures.is (omega (arith, c.run.ensures.within, c.if-place-text.false)) (sym c.if-is_ascii_alphabetic.ensures.value) (sym c.if-is_ascii_digit.ensures.value);
+      advances = advances_from_earlier at (at + n) (length t) c.read_number.result (omega arith) c.read_number.ensures.advances;
     }
 
 pub returns : goal.returns
@@ -39,7 +39,7 @@ returns c =
     let at = c.args.at in
     let n = c.run.result in
     record {
-      is = c.read-mark.ensures.is
-          ∙ next_is_mark t at n c.run.ensures.is (omega (arith, c.run.ensures.within, c.if-place-text.false)) (sym c.if-is-ascii-alphabetic.ensures.value) (sym c.if-is-ascii-digit.ensures.value);
-      advances = advances_from_earlier at (at + n) (length t) c.read-mark.result (omega arith) c.read-mark.ensures.advances;
+      is = c.read_mark.ensures.is
+          ∙ next_is_mark t at n c.run.ensures.is (omega (arith, c.run.ensures.within, c.if-place-text.false)) (sym c.if-is_ascii_alphabetic.ensures.value) (sym c.if-is_ascii_digit.ensures.value);
+      advances = advances_from_earlier at (at + n) (length t) c.read_mark.result (omega arith) c.read_mark.ensures.advances;
     }

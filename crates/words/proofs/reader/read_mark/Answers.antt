@@ -15,14 +15,14 @@ returns-in-Some c =
       advances = (omega arith, c.in-Some.ensures.kind.1);
     }
 
-pub returns-in-Some-one-byte-mark : goal.returns-in-Some-one-byte-mark
-returns-in-Some-one-byte-mark c =
+pub returns-in-Some-one_byte_mark : goal.returns-in-Some-one_byte_mark
+returns-in-Some-one_byte_mark c =
     let t = c.args.text.now in
     let place = c.args.place in
-    let one = c.in-Some-one-byte-mark.ensures.is (drop (place + 1) t) nothing ∙ sym (at_drop_more (λ z. first_of one_byte_marks z nothing) t place 0 c.requires) in
-    let e = marks_in_two_parts (drop place t) ∙ (sym (c.in-default.ensures.is (first_of one_byte_marks (drop place t) nothing)) ∙ sym one) in
+    let one = c.in-Some-one_byte_mark.ensures.is (drop (place + 1) t) nothing ∙ sym (at_drop_more (λ z. first_of one_byte_marks z nothing) t place 0 c.requires) in
+    let e = marks_in_two_parts (drop place t) ∙ (sym (c.in_default.ensures.is (first_of one_byte_marks (drop place t) nothing)) ∙ sym one) in
     record {
-      is = mark_read t place 1 (omega arith) c.in-Some-one-byte-mark.token c.in-Some-one-byte-mark.ensures.kind e;
+      is = mark_read t place 1 (omega arith) c.in-Some-one_byte_mark.token c.in-Some-one_byte_mark.ensures.kind e;
       advances = (omega arith, omega arith);
     }
 
@@ -31,5 +31,5 @@ returns-in-None c =
     let t = c.args.text.now in
     let place = c.args.place in
     let one = c.in-None.ensures.is (drop (place + 1) t) nothing ∙ sym (at_drop_more (λ z. first_of one_byte_marks z nothing) t place 0 c.requires) in
-    let e = marks_in_two_parts (drop place t) ∙ (sym (c.in-default.ensures.is (first_of one_byte_marks (drop place t) nothing)) ∙ sym one) in
+    let e = marks_in_two_parts (drop place t) ∙ (sym (c.in_default.ensures.is (first_of one_byte_marks (drop place t) nothing)) ∙ sym one) in
     record { is = ap (word_at place (drop place t)) (sym e); advances = tt }

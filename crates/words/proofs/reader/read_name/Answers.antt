@@ -6,9 +6,9 @@ use Rattle.words.specs.Records.{token_in}
 use Rattle.words.proofs.OneWord.{name_read, name_refused, run_part, run_length, run_not_empty, letter_to_alnum}
 use Rattle.words.proofs.reader.read_name.Goals as goal
 
-pub returns-then-length-gt-LONGEST-NAME : goal.returns-then-length-gt-LONGEST-NAME
-returns-then-length-gt-LONGEST-NAME c =
-    record { is = name_refused c.args.text.now c.args.place c.run-length.result c.run-length.ensures.is c.if-length-gt-LONGEST-NAME.true; advances = tt }
+pub returns-then-length-gt-LONGEST_NAME : goal.returns-then-length-gt-LONGEST_NAME
+returns-then-length-gt-LONGEST_NAME c =
+    record { is = name_refused c.args.text.now c.args.place c.run-length.result c.run-length.ensures.is c.if-length-gt-LONGEST_NAME.true; advances = tt }
 
 pub returns : goal.returns
 returns c =
@@ -20,8 +20,8 @@ returns c =
     let some = run_not_empty is_ascii_alphanumeric t place n c.run-length.ensures.is c.requires.within (letter_to_alnum (get_or t place 0) c.requires.letter) in
     let i : length (take (place + n - place) (drop place t)) ≡ place + n - place = omega (arith, ap length part ∙ full) in
     record {
-      is = name_read t place n c.run-length.ensures.is c.skipped-after-skipped.result c.name-token-token.result c.if-length-gt-LONGEST-NAME.false
-          (c.name-token-token.ensures (drop place t) (ap (λ l. take l (drop place t)) i) ∙ ap name_token part)
-          (c.skipped-after-skipped.ensures.is ∙ ap (λ s. skipped s (drop (place + n) t)) part);
-      advances = (omega (arith, some), c.skipped-after-skipped.ensures.within);
+      is = name_read t place n c.run-length.ensures.is c.skipped_after-skipped.result c.name_token-token.result c.if-length-gt-LONGEST_NAME.false
+          (c.name_token-token.ensures (drop place t) (ap (λ l. take l (drop place t)) i) ∙ ap name_token part)
+          (c.skipped_after-skipped.ensures.is ∙ ap (λ s. skipped s (drop (place + n) t)) part);
+      advances = (omega (arith, some), c.skipped_after-skipped.ensures.within);
     }

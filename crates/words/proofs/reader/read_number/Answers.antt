@@ -12,7 +12,7 @@ value-requires c =
     let part = run_part is_ascii_digit t place n c.run-length.ensures.is in
     let full = run_length is_ascii_digit t place n c.run-length.ensures.is in
     record {
-      short = omega (arith, ap length part ∙ full, c.if-length-gt-LONGEST-NUMBER.false);
+      short = omega (arith, ap length part ∙ full, c.if-length-gt-LONGEST_NUMBER.false);
       digits = run_made_of is_ascii_digit t place n c.run-length.ensures.is;
     }
 
@@ -23,7 +23,7 @@ returns c =
     let n = c.run-length.result in
     let some = run_not_empty is_ascii_digit t place n c.run-length.ensures.is c.requires.within c.requires.digit in
     record {
-      is = number_read t place n c.run-length.ensures.is c.value.result c.if-length-gt-LONGEST-NUMBER.false
+      is = number_read t place n c.run-length.ensures.is c.value.result c.if-length-gt-LONGEST_NUMBER.false
           (c.value.ensures ∙ ap value_of (run_part is_ascii_digit t place n c.run-length.ensures.is));
       advances = (omega (arith, some), c.run-length.ensures.within);
     }

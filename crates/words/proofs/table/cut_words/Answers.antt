@@ -17,14 +17,14 @@ promised word text before answer after most m e k =
     let d : words_in text (map word after) answer ≡ words_within (min 500 (length before)) text = sym e ∙ ap (λ n. words_within n text) m in
     record { defined = d; reads = roomy_table_reads text (length before) (words_in text (map word after) answer) d; rest = k }
 
-pub returns-then-text-gt-LONGEST-TEXT : goal.returns-then-text-gt-LONGEST-TEXT
-returns-then-text-gt-LONGEST-TEXT g c =
+pub returns-then-text-gt-LONGEST_TEXT : goal.returns-then-text-gt-LONGEST_TEXT
+returns-then-text-gt-LONGEST_TEXT g c =
     let table = c.args.table.now in
     promised g.S.WordSlot.word c.args.text.now table (Err (record { reason = TextTooLong; place = 8192 })) table (min 500 (length table)) refl
-    (too_long_text (min 500 (length table)) c.args.text.now c.if-text-gt-LONGEST-TEXT.true) tt
+    (too_long_text (min 500 (length table)) c.args.text.now c.if-text-gt-LONGEST_TEXT.true) tt
 
 pub words-init : goal.words-init
-words-init g c = (none_read c.min-most.result c.args.text.now c.if-text-gt-LONGEST-TEXT.false, omega arith, refl, omega arith)
+words-init g c = (none_read c.min-most.result c.args.text.now c.if-text-gt-LONGEST_TEXT.false, omega arith, refl, omega arith)
 
 pub returns-in-End : goal.returns-in-End
 returns-in-End g c =
@@ -62,8 +62,8 @@ words-preserved g c =
     let room : count < length table = omega (arith, lt, c.min-most.ensures, c.words.auto.table) in
     let n = words_held_length g.S.WordSlot.word text table count (omega (arith, room)) in
     let read = one_more_read most text ws c.words.at c.words.invariant.0 (word_in text c.in-Word.word) c.in-Word.next c.in-Word.ensures.is (omega (arith, n, lt)) in (
-      subst (λ vs. SoFar most text vs c.in-Word.next) (sym (words_held_more g.S.WordSlot.word text table count c.of-word.result c.in-Word.word c.of-word.ensures room)) read,
+      subst (λ vs. SoFar most text vs c.in-Word.next) (sym (words_held_more g.S.WordSlot.word text table count c.of_word.result c.in-Word.word c.of_word.ensures room)) read,
       omega (arith, lt),
-      kept_behind_more table c.args.table.now count c.of-word.result c.words.invariant.2,
+      kept_behind_more table c.args.table.now count c.of_word.result c.words.invariant.2,
       c.in-Word.ensures.advances.1,
     )

@@ -4,6 +4,6 @@ use Rattle.code.specs.Operations.{operation}
 use Rattle.code.specs.Codes.{operation_at}
 use Rattle.code.proofs.checked.Checked.lone_halt.Goals as goal
 
-pub invariant-of-result : goal.invariant-of-result
+pub invariant_of-result : goal.invariant_of-result
 unfolding check operation operation_at
-invariant-of-result c = (refl, tt)
+invariant_of-result c = (refl, tt)
