@@ -10,8 +10,8 @@ pub returns-then-before-i : goal.returns-then-before-i
 returns-then-before-i t c = λ v gs e h.
     let n : node v c.args.i ≡ More c.in-More.before c.in-More.last = ap (λ (l : List Node). get_or l c.args.i Empty) e ∙ sym c.in-More.ensures in
     c.earlier.ensures
-    ∙ groups_joined v c.args.i c.in-More.before c.in-More.last n group_bounds c.groups-offence.result c.group-offence.result
-    (λ hs k. c.groups-offence.ensures v hs e k) (λ g k. c.group-offence.ensures v g e k) gs h
+    ∙ groups_joined v c.args.i c.in-More.before c.in-More.last n group_bounds c.groups_offence.result c.group_offence.result
+    (λ hs k. c.groups_offence.ensures v hs e k) (λ g k. c.group_offence.ensures v g e k) gs h
 
 pub returns-else-before-i : goal.returns-else-before-i
 returns-else-before-i t c = λ v gs e h.
@@ -19,8 +19,8 @@ returns-else-before-i t c = λ v gs e h.
     let l : c.in-More.before < c.args.i = groups_before v c.args.i c.in-More.before c.in-More.last n gs h in
     absurd (omega arith)
 
-pub returns-in-default : goal.returns-in-default
-returns-in-default t c = λ v gs e h.
-    let n : node v c.args.i ≡ c.node-of.result = ap (λ (l : List Node). get_or l c.args.i Empty) e ∙ sym c.node-of.ensures in
-    groups_single v c.args.i (λ a b m. c.in-default.not-More a b (sym n ∙ m)) group_bounds c.group-offence-in-default.result
-    (λ g k. c.group-offence-in-default.ensures v g e k) gs h
+pub returns-in_default : goal.returns-in_default
+returns-in_default t c = λ v gs e h.
+    let n : node v c.args.i ≡ c.node_of.result = ap (λ (l : List Node). get_or l c.args.i Empty) e ∙ sym c.node_of.ensures in
+    groups_single v c.args.i (λ a b m. c.in_default.not-More a b (sym n ∙ m)) group_bounds c.group_offence-in_default.result
+    (λ g k. c.group_offence-in_default.ensures v g e k) gs h

@@ -14,7 +14,7 @@ loop-k-preserved c =
     let m : c.loop-k.k < length c.args.names.now = omega arith in (
       one_placed c.args.records.now c.args.names.now c.loop-k.names c.loop-k.k c.loop-k.c c.loop-k.offence _ l m c.loop-k.invariant.0
           c.cells-n.result c.cells-n.ensures.count
-          c.passing.result (c.passing.ensures ∙ ap (λ (q : ℕ). earliest_of (told (leb c.loop-k.c 2048 && ltb 2048 (c.loop-k.c + c.cells-n.result)) q)) c.place-of.ensures)
+          c.passing.result (c.passing.ensures ∙ ap (λ (q : ℕ). earliest_of (told (leb c.loop-k.c 2048 && ltb 2048 (c.loop-k.c + c.cells-n.result)) q)) c.place_of.ensures)
           c.earlier-offence.result c.earlier-offence.ensures,
       omega arith,
     )

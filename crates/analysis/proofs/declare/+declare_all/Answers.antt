@@ -13,7 +13,7 @@ pub returns-then-last-i : goal.returns-then-last-i
 returns-then-last-i t c = λ v ns whole u numbered h.
     let s = stands_as v c.args.i _ (node_is v _ c.args.i _ numbered.nodes c.in-More.ensures) u h in
     heeds_as c.earlier.ensures
-    (heeds_joined (λ w k. c.declare-all-a.ensures v ns whole w numbered k) (λ w k. c.declare-all-b.ensures v ns whole w numbered k) s)
+    (heeds_joined (λ w k. c.declare_all-a.ensures v ns whole w numbered k) (λ w k. c.declare_all-b.ensures v ns whole w numbered k) s)
 
 pub returns-else-before-i : goal.returns-else-before-i
 returns-else-before-i t c = λ v ns whole u numbered h.
@@ -25,7 +25,7 @@ pub returns-then-body-i : goal.returns-then-body-i
 returns-then-body-i t c = λ v ns whole u numbered h.
     let s = stands_as v c.args.i _ (node_is v _ c.args.i _ numbered.nodes c.in-Labelled.ensures) u h in
     heeds_as c.earlier-then-body-i.ensures
-    (heeds_labelled (λ x n. c.declare-a.ensures v ns whole x as_label numbered label n) (λ w k. c.declare-all-b-then-body-i.ensures v ns whole w numbered k) s)
+    (heeds_labelled (λ x n. c.declare-a.ensures v ns whole x as_label numbered label n) (λ w k. c.declare_all-b-then-body-i.ensures v ns whole w numbered k) s)
 
 pub returns-else-body-i : goal.returns-else-body-i
 returns-else-body-i t c = λ v ns whole u numbered h.
@@ -35,7 +35,7 @@ returns-else-body-i t c = λ v ns whole u numbered h.
 pub returns-then-body-i-2 : goal.returns-then-body-i-2
 returns-then-body-i-2 t c = λ v ns whole u numbered h.
     let s = stands_as v c.args.i _ (node_is v _ c.args.i _ numbered.nodes c.in-Conditional.ensures) u h in
-    heeds_condition (λ w k. c.declare-all.ensures v ns whole w numbered k) s
+    heeds_condition (λ w k. c.declare_all.ensures v ns whole w numbered k) s
 
 pub returns-else-body-i-2 : goal.returns-else-body-i-2
 returns-else-body-i-2 t c = λ v ns whole u numbered h.
@@ -45,7 +45,7 @@ returns-else-body-i-2 t c = λ v ns whole u numbered h.
 pub returns-then-body-i-3 : goal.returns-then-body-i-3
 returns-then-body-i-3 t c = λ v ns whole u numbered h.
     let s = stands_as v c.args.i _ (node_is v _ c.args.i _ numbered.nodes c.in-Repeated.ensures) u h in
-    heeds_repetition (λ w k. c.declare-all-then-body-i-3.ensures v ns whole w numbered k) s
+    heeds_repetition (λ w k. c.declare_all-then-body-i-3.ensures v ns whole w numbered k) s
 
 pub returns-else-body-i-3 : goal.returns-else-body-i-3
 returns-else-body-i-3 t c = λ v ns whole u numbered h.
@@ -55,7 +55,7 @@ returns-else-body-i-3 t c = λ v ns whole u numbered h.
 pub returns-in-Array : goal.returns-in-Array
 returns-in-Array t c = λ v ns whole u numbered h.
     let s = stands_as v c.args.i _ (node_is v _ c.args.i _ numbered.nodes c.in-Array.ensures) u h in
-    heeds_arrays (λ gs k. c.declare-groups.ensures v ns whole gs numbered k) s
+    heeds_arrays (λ gs k. c.declare_groups.ensures v ns whole gs numbered k) s
 
 pub returns-in-Switch : goal.returns-in-Switch
 returns-in-Switch t c = λ v ns whole u numbered h.
@@ -65,14 +65,14 @@ returns-in-Switch t c = λ v ns whole u numbered h.
 pub returns-in-Integer : goal.returns-in-Integer
 returns-in-Integer t c = λ v ns whole u numbered h.
     let s = stands_as v c.args.i _ (node_is v _ c.args.i _ numbered.nodes c.in-Integer.ensures) u h in
-    heeds_integers (λ xs k. c.declare-row.ensures v ns whole xs (of_type IntegerType) numbered integer k) s
+    heeds_integers (λ xs k. c.declare_row.ensures v ns whole xs (of_type IntegerType) numbered integer k) s
 
 pub returns-in-Boolean : goal.returns-in-Boolean
 returns-in-Boolean t c = λ v ns whole u numbered h.
     let s = stands_as v c.args.i _ (node_is v _ c.args.i _ numbered.nodes c.in-Boolean.ensures) u h in
-    heeds_booleans (λ xs k. c.declare-row-in-Boolean.ensures v ns whole xs (of_type BooleanType) numbered boolean k) s
+    heeds_booleans (λ xs k. c.declare_row-in-Boolean.ensures v ns whole xs (of_type BooleanType) numbered boolean k) s
 
-pub returns-in-default : goal.returns-in-default
-returns-in-default t c = λ v ns whole u numbered h.
-    let s = stands_as v c.args.i _ (node_is v _ c.args.i _ numbered.nodes c.node-of.ensures) u h in
-    heeds_rest c.in-default.not-More c.in-default.not-Labelled c.in-default.not-Conditional c.in-default.not-Repeated c.in-default.not-Array c.in-default.not-Switch c.in-default.not-Integer c.in-default.not-Boolean s
+pub returns-in_default : goal.returns-in_default
+returns-in_default t c = λ v ns whole u numbered h.
+    let s = stands_as v c.args.i _ (node_is v _ c.args.i _ numbered.nodes c.node_of.ensures) u h in
+    heeds_rest c.in_default.not-More c.in_default.not-Labelled c.in_default.not-Conditional c.in_default.not-Repeated c.in_default.not-Array c.in_default.not-Switch c.in_default.not-Integer c.in_default.not-Boolean s

@@ -13,7 +13,7 @@ returns-then-last-i t c = λ v ns whole gs numbered h.
     let n : node v c.args.i ≡ More c.in-More.before c.in-More.last = node_is v _ c.args.i _ numbered.nodes c.in-More.ensures in
     heeds_as c.earlier.ensures
     (row_joined GroupAt v c.args.i c.in-More.before c.in-More.last n (group_never_joins v c.args.i c.in-More.before c.in-More.last n) in_group
-    (λ hs k. c.declare-groups-a.ensures v ns whole hs numbered k) (λ hs k. c.declare-groups-b.ensures v ns whole hs numbered k) gs h)
+    (λ hs k. c.declare_groups-a.ensures v ns whole hs numbered k) (λ hs k. c.declare_groups-b.ensures v ns whole hs numbered k) gs h)
 
 pub returns-else-before-i : goal.returns-else-before-i
 returns-else-before-i t c = λ v ns whole gs numbered h.
@@ -26,10 +26,10 @@ pub returns-in-Group : goal.returns-in-Group
 returns-in-Group t c = λ v ns whole gs numbered h.
     let n = node_is v _ c.args.i _ numbered.nodes c.in-Group.ensures in
     row_single GroupAt v c.args.i (λ a b m. let z : ◌≡◌ {A = ℕ} 0 1 = cc in omega arith) in_group
-    (λ g k. c.declare-row.ensures v ns whole g.names (as_array g.low g.high) numbered (group_role v c.args.i _ _ _ _ n g k) (group_row v c.args.i _ _ _ _ n g k)) gs h
+    (λ g k. c.declare_row.ensures v ns whole g.names (as_array g.low g.high) numbered (group_role v c.args.i _ _ _ _ n g k) (group_row v c.args.i _ _ _ _ n g k)) gs h
 
-pub returns-in-default : goal.returns-in-default
-returns-in-default t c = λ v ns whole gs numbered h.
-    let n : node v c.args.i ≡ c.node-of.result = node_is v _ c.args.i _ numbered.nodes c.node-of.ensures in
-    row_single GroupAt v c.args.i (λ a b m. c.in-default.not-More a b (sym n ∙ m)) in_group
-    (λ g k. absurd (c.in-default.not-Group _ _ _ _ (sym n ∙ k.2.1))) gs h
+pub returns-in_default : goal.returns-in_default
+returns-in_default t c = λ v ns whole gs numbered h.
+    let n : node v c.args.i ≡ c.node_of.result = node_is v _ c.args.i _ numbered.nodes c.node_of.ensures in
+    row_single GroupAt v c.args.i (λ a b m. c.in_default.not-More a b (sym n ∙ m)) in_group
+    (λ g k. absurd (c.in_default.not-Group _ _ _ _ (sym n ∙ k.2.1))) gs h

@@ -1,4 +1,4 @@
 use Rattle.analysis.proofs.declare.+declare_groups.Given as goal
 
-abbrev pub decreases-declare-groups : goal.decreases-declare-groups
-decreases-declare-groups l = l.i
+abbrev pub decreases-declare_groups : goal.decreases-declare_groups
+decreases-declare_groups l = l.i

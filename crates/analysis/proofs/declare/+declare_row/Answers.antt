@@ -14,7 +14,7 @@ returns-then-last-i t c = λ v ns whole xs role numbered at_role h.
     let n : node v c.args.i ≡ More c.in-More.before c.in-More.last = node_is v _ c.args.i _ numbered.nodes c.in-More.ensures in
     heeds_as c.earlier.ensures
     (row_joined NameAt v c.args.i c.in-More.before c.in-More.last n (name_never_joins v c.args.i c.in-More.before c.in-More.last n) (λ (x : Name). at role x ∷ [])
-    (λ ys k. c.declare-row-a.ensures v ns whole ys role numbered at_role k) (λ ys k. c.declare-row-b.ensures v ns whole ys role numbered at_role k) xs h)
+    (λ ys k. c.declare_row-a.ensures v ns whole ys role numbered at_role k) (λ ys k. c.declare_row-b.ensures v ns whole ys role numbered at_role k) xs h)
 
 pub returns-else-before-i : goal.returns-else-before-i
 returns-else-before-i t c = λ v ns whole xs role numbered at_role h.
@@ -29,8 +29,8 @@ returns-in-Simple t c = λ v ns whole xs role numbered at_role h.
     row_single NameAt v c.args.i (λ a b m. let z : ◌≡◌ {A = ℕ} 0 1 = cc in omega arith) (λ (x : Name). at role x ∷ [])
     (λ x k. c.declare.ensures v ns whole x role numbered at_role (name_word v c.args.i c.in-Simple.w n x k)) xs h
 
-pub returns-in-default : goal.returns-in-default
-returns-in-default t c = λ v ns whole xs role numbered at_role h.
-    let n : node v c.args.i ≡ c.node-of.result = node_is v _ c.args.i _ numbered.nodes c.node-of.ensures in
-    row_single NameAt v c.args.i (λ a b m. c.in-default.not-More a b (sym n ∙ m)) (λ (x : Name). at role x ∷ [])
-    (λ x k. absurd (c.in-default.not-Simple k.0 (sym n ∙ k.1))) xs h
+pub returns-in_default : goal.returns-in_default
+returns-in_default t c = λ v ns whole xs role numbered at_role h.
+    let n : node v c.args.i ≡ c.node_of.result = node_is v _ c.args.i _ numbered.nodes c.node_of.ensures in
+    row_single NameAt v c.args.i (λ a b m. c.in_default.not-More a b (sym n ∙ m)) (λ (x : Name). at role x ∷ [])
+    (λ x k. absurd (c.in_default.not-Simple k.0 (sym n ∙ k.1))) xs h

@@ -9,7 +9,7 @@ use Rattle.analysis.proofs.fors.+count_fors.Goals as goal
 pub returns-then-last-i : goal.returns-then-last-i
 returns-then-last-i t c = λ v u e h.
     let s = stands_as v c.args.i _ (node_is v _ c.args.i _ e c.in-More.ensures) u h in
-    counts_joined (λ w k. c.count-fors-a.ensures v w e k) (λ w k. c.count-fors-b.ensures v w e k) c.earlier.ensures s
+    counts_joined (λ w k. c.count_fors-a.ensures v w e k) (λ w k. c.count_fors-b.ensures v w e k) c.earlier.ensures s
 
 pub returns-else-before-i : goal.returns-else-before-i
 returns-else-before-i t c = λ v u e h.
@@ -20,7 +20,7 @@ returns-else-before-i t c = λ v u e h.
 pub returns-then-body-i : goal.returns-then-body-i
 returns-then-body-i t c = λ v u e h.
     let s = stands_as v c.args.i _ (node_is v _ c.args.i _ e c.in-Labelled.ensures) u h in
-    counts_labelled (λ w k. c.count-fors.ensures v w e k) s
+    counts_labelled (λ w k. c.count_fors.ensures v w e k) s
 
 pub returns-else-body-i : goal.returns-else-body-i
 returns-else-body-i t c = λ v u e h.
@@ -30,7 +30,7 @@ returns-else-body-i t c = λ v u e h.
 pub returns-then-body-i-2 : goal.returns-then-body-i-2
 returns-then-body-i-2 t c = λ v u e h.
     let s = stands_as v c.args.i _ (node_is v _ c.args.i _ e c.in-Conditional.ensures) u h in
-    counts_condition (λ w k. c.count-fors-then-body-i-2.ensures v w e k) s
+    counts_condition (λ w k. c.count_fors-then-body-i-2.ensures v w e k) s
 
 pub returns-else-body-i-2 : goal.returns-else-body-i-2
 returns-else-body-i-2 t c = λ v u e h.
@@ -43,14 +43,14 @@ returns-then-body-i-3 t c = λ v u e h.
     let m = c.min.ensures in
     let n : c.min.result + 1 ≡ min (c.args.c + 1) 2049 = omega arith in
     counts_repetition (counts_one c.args.c c.in-Repeated.place (record { cells = c.min.result + 1; offence = c.passing.result }) n c.passing.ensures)
-    (λ w k. c.count-fors-b-then-body-i-3.ensures v w e k) c.earlier-then-body-i-3.ensures s
+    (λ w k. c.count_fors-b-then-body-i-3.ensures v w e k) c.earlier-then-body-i-3.ensures s
 
 pub returns-else-body-i-3 : goal.returns-else-body-i-3
 returns-else-body-i-3 t c = λ v u e h.
     let l = repetition_before (stands_as v c.args.i _ (node_is v _ c.args.i _ e c.in-Repeated.ensures) u h) in
     absurd (omega arith)
 
-pub returns-in-default : goal.returns-in-default
-returns-in-default t c = λ v u e h.
-    let s = stands_as v c.args.i _ (node_is v _ c.args.i _ e c.node-of.ensures) u h in
-    counts_rest c.in-default.not-More c.in-default.not-Labelled c.in-default.not-Conditional c.in-default.not-Repeated c.min-in-default.ensures refl s
+pub returns-in_default : goal.returns-in_default
+returns-in_default t c = λ v u e h.
+    let s = stands_as v c.args.i _ (node_is v _ c.args.i _ e c.node_of.ensures) u h in
+    counts_rest c.in_default.not-More c.in_default.not-Labelled c.in_default.not-Conditional c.in_default.not-Repeated c.min-in_default.ensures refl s

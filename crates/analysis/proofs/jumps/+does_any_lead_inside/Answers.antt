@@ -12,22 +12,22 @@ At ss labels r xs = r ≡ some_name (leads_inside ss labels) xs
 
 pub returns-then-before : goal.returns-then-before
 returns-then-before t c = λ v ss labels xs h sees k.
-    from_names (At ss labels c.does-any-lead-inside-before.result) (names_node c.args.records.now v c.args.i _ h.nodes c.in-More.ensures.is xs k)
+    from_names (At ss labels c.does_any_lead_inside-before.result) (names_node c.args.records.now v c.args.i _ h.nodes c.in-More.ensures.is xs k)
     (λ ys x l m. c.if-before.true
-    ∙ (ap (λ (b : Bool). b || c.does-any-lead-inside-last.result) (sym c.if-before.true)
-    ∙ either_agrees (c.does-any-lead-inside-before.ensures v ss labels ys h sees l) (c.does-any-lead-inside-last.ensures v ss labels (one x) h sees m)))
+    ∙ (ap (λ (b : Bool). b || c.does_any_lead_inside-last.result) (sym c.if-before.true)
+    ∙ either_agrees (c.does_any_lead_inside-before.ensures v ss labels ys h sees l) (c.does_any_lead_inside-last.ensures v ss labels (one x) h sees m)))
 
 pub returns-else-before : goal.returns-else-before
 returns-else-before t c = λ v ss labels xs h sees k.
-    from_names (At ss labels c.does-any-lead-inside-last.result) (names_node c.args.records.now v c.args.i _ h.nodes c.in-More.ensures.is xs k)
-    (λ ys x l m. ap (λ (b : Bool). b || c.does-any-lead-inside-last.result) (sym c.if-before.false)
-    ∙ either_agrees (c.does-any-lead-inside-before.ensures v ss labels ys h sees l) (c.does-any-lead-inside-last.ensures v ss labels (one x) h sees m))
+    from_names (At ss labels c.does_any_lead_inside-last.result) (names_node c.args.records.now v c.args.i _ h.nodes c.in-More.ensures.is xs k)
+    (λ ys x l m. ap (λ (b : Bool). b || c.does_any_lead_inside-last.result) (sym c.if-before.false)
+    ∙ either_agrees (c.does_any_lead_inside-before.ensures v ss labels ys h sees l) (c.does_any_lead_inside-last.ensures v ss labels (one x) h sees m))
 
 pub returns-in-Simple : goal.returns-in-Simple
 returns-in-Simple t c = λ v ss labels xs h sees k.
-    from_name (At ss labels c.does-lead-inside.result) (names_node c.args.records.now v c.args.i _ h.nodes c.in-Simple.ensures.is xs k)
-    (λ x n. c.does-lead-inside.ensures v ss labels x h sees n)
+    from_name (At ss labels c.does_lead_inside.result) (names_node c.args.records.now v c.args.i _ h.nodes c.in-Simple.ensures.is xs k)
+    (λ x n. c.does_lead_inside.ensures v ss labels x h sees n)
 
-pub returns-in-default : goal.returns-in-default
-returns-in-default t c = λ v ss labels xs h sees k.
-    absurd (no_names (names_node c.args.records.now v c.args.i c.ordered-node.result h.nodes c.ordered-node.ensures.is xs k) c.in-default.not-More c.in-default.not-Simple)
+pub returns-in_default : goal.returns-in_default
+returns-in_default t c = λ v ss labels xs h sees k.
+    absurd (no_names (names_node c.args.records.now v c.args.i c.ordered_node.result h.nodes c.ordered_node.ensures.is xs k) c.in_default.not-More c.in_default.not-Simple)

@@ -1,4 +1,4 @@
 use Rattle.analysis.proofs.jumps.+jump_offence_seeing.Given as goal
 
-abbrev pub decreases-jump-offence-seeing : goal.decreases-jump-offence-seeing
-decreases-jump-offence-seeing l = l.i
+abbrev pub decreases-jump_offence_seeing : goal.decreases-jump_offence_seeing
+decreases-jump_offence_seeing l = l.i

@@ -5,8 +5,8 @@ use Rattle.analysis.proofs.jumps.does_switch_lead_inside.Goals as goal
 
 pub returns-in-Switch : goal.returns-in-Switch
 returns-in-Switch c = λ v ss labels x h sees n.
-    switch_held (c.in-Switch.ensures v ss x h n) (leads_inside ss labels) c.does-any-lead-inside.result
-    (λ xs k. c.does-any-lead-inside.ensures v ss labels xs h sees k)
+    switch_held (c.in-Switch.ensures v ss x h n) (leads_inside ss labels) c.does_any_lead_inside.result
+    (λ xs k. c.does_any_lead_inside.ensures v ss labels xs h sees k)
 
-pub returns-in-default : goal.returns-in-default
-returns-in-default c = λ v ss labels x h sees n. no_switch (c.kind-of.ensures v ss x h n) c.in-default.not-Switch (leads_inside ss labels)
+pub returns-in_default : goal.returns-in_default
+returns-in_default c = λ v ss labels x h sees n. no_switch (c.kind_of.ensures v ss x h n) c.in_default.not-Switch (leads_inside ss labels)

@@ -5,8 +5,8 @@ use Rattle.analysis.proofs.jumps.jump_offence.Goals as goal
 
 pub returns : goal.returns
 returns c = λ v ss t h p small k.
-    let P : List (List ℕ) → Type 0 = λ l. Sees ss c.add-open-labels.new.seen.lines l in
-    c.jump-offence-seeing.ensures v ss (outer_labels t) t h p small
+    let P : List (List ℕ) → Type 0 = λ l. Sees ss c.add_open_labels.new.seen.lines l in
+    c.jump_offence_seeing.ensures v ss (outer_labels t) t h p small
     (subst P (append-nil (outer_labels t))
-    (c.add-open-labels.ensures v c.args.names.now ss [] t h small (λ x j n. c.no-labels-outer.ensures j) k))
+    (c.add_open_labels.ensures v c.args.names.now ss [] t h small (λ x j n. c.no_labels-outer.ensures j) k))
     k

@@ -1,4 +1,4 @@
 use Rattle.analysis.proofs.labels.+add_open_labels.Given as goal
 
-abbrev pub decreases-add-open-labels : goal.decreases-add-open-labels
-decreases-add-open-labels l = l.i
+abbrev pub decreases-add_open_labels : goal.decreases-add_open_labels
+decreases-add_open_labels l = l.i

@@ -9,8 +9,8 @@ returns-else-n-names c =
     let a : c.args.n - 0 ≡ c.args.n = omega arith in
     let f : None ≡ found_line c.args.text.now c.args.records.now c.args.w c.args.names.now c.args.n =
     c.in-None.ensures
-    ∙ (ap (λ (k : ℕ). line_from 0 c.letters-of-sought.result.now (map (line_letters c.args.text.now c.args.records.now) (take k c.args.names.now))) a
-    ∙ ap (λ (l : List ℕ). line_from 0 l (map (line_letters c.args.text.now c.args.records.now) (take c.args.n c.args.names.now))) c.letters-of-sought.ensures) in
+    ∙ (ap (λ (k : ℕ). line_from 0 c.letters_of-sought.result.now (map (line_letters c.args.text.now c.args.records.now) (take k c.args.names.now))) a
+    ∙ ap (λ (l : List ℕ). line_from 0 l (map (line_letters c.args.text.now c.args.records.now) (take c.args.n c.args.names.now))) c.letters_of-sought.ensures) in
     record {
       number = ap (λ (o : Option ℕ). number_or c.args.n o) f;
       lines = sym (set_past c.args.names.now c.args.n (new_line c.args.w) c.if-n-names.false) ∙ ap (λ (o : Option ℕ). lines_with c.args.names.now c.args.w c.args.n o) f;

@@ -9,7 +9,7 @@ loop-w-init c = (refl, refl, omega arith, λ fits. ([], none_entered c.args.text
 pub loop-w-preserved : goal.loop-w-preserved
 loop-w-preserved c =
     let i = c.loop-w.invariant in
-    let e = c.number-word-n.ensures in
+    let e = c.number_word-n.ensures in
     let end = c.min-end.ensures in
     let test = c.loop-w-test.true in
     let w : c.loop-w.w < min c.args.count (length c.args.records.now) = omega arith in (
@@ -25,8 +25,8 @@ loop-w-preserved c =
           (inside_view c.args.text.now c.args.records.now c.args.count c.loop-w.w w) before.1,
     )
 
-pub number-word-n-requires : goal.number-word-n-requires
-number-word-n-requires c =
+pub number_word-n-requires : goal.number_word-n-requires
+number_word-n-requires c =
     let r : length c.loop-w.records ≡ length c.args.records.now = c.loop-w.auto.records in
     let end = c.min-end.ensures in
     let l = c.loop-w-test.true in

@@ -5,22 +5,22 @@ use Rattle.analysis.specs.Numbering.{found_line, number_or, lines_with, new_line
 use Rattle.analysis.proofs.EnteredWords.{other_enters, next_new, next_known, name_enters}
 use Rattle.analysis.proofs.numbering.number_word.Goals as goal
 
-pub returns-in-default : goal.returns-in-default
-returns-in-default c = other_enters c.args.text.now c.args.records.now c.args.w c.args.n c.args.names.now _ c.requires.0 c.requires.1 c.in-default.not-Name
+pub returns-in_default : goal.returns-in_default
+returns-in_default c = other_enters c.args.text.now c.args.records.now c.args.w c.args.n c.args.names.now _ c.requires.0 c.requires.1 c.in_default.not-Name
 
 pub returns-then-n-names : goal.returns-then-n-names
 returns-then-n-names c =
-    let e = c.enter-name-k.ensures.number in
+    let e = c.enter_name-k.ensures.number in
     let q = c.if-k-n.true in
     let test = c.if-n-names.true in
-    let fits : c.args.n + 1 ≤ length c.enter-name-k.new.names = omega arith in
-    name_enters c.args.text.now c.args.records.now c.args.w c.args.n c.args.names.now _ c.requires.0 c.in-Name.field-0 c.in-Name.is _ refl refl e c.enter-name-k.new.names c.enter-name-k.ensures.lines _
+    let fits : c.args.n + 1 ≤ length c.enter_name-k.new.names = omega arith in
+    name_enters c.args.text.now c.args.records.now c.args.w c.args.n c.args.names.now _ c.requires.0 c.in-Name.field-0 c.in-Name.is _ refl refl e c.enter_name-k.new.names c.enter_name-k.ensures.lines _
     (λ o h room. next_new c.args.text.now c.args.records.now c.args.w c.args.n c.args.names.now c.requires.1 (sym e ∙ q) o h) fits
 
 pub returns-else-k-n : goal.returns-else-k-n
 returns-else-k-n c =
-    let kept : length c.enter-name-k.new.names ≡ length c.args.names.now = c.enter-name-k.auto.names in
+    let kept : length c.enter_name-k.new.names ≡ length c.args.names.now = c.enter_name-k.auto.names in
     let before = c.requires.1 in
-    let fits : c.args.n ≤ length c.enter-name-k.new.names = omega arith in
-    name_enters c.args.text.now c.args.records.now c.args.w c.args.n c.args.names.now _ c.requires.0 c.in-Name.field-0 c.in-Name.is _ refl refl c.enter-name-k.ensures.number c.enter-name-k.new.names c.enter-name-k.ensures.lines _
-    (next_known c.args.text.now c.args.records.now c.args.w c.args.n c.args.names.now c.enter-name-k.result c.enter-name-k.ensures.number c.enter-name-k.new.names c.enter-name-k.ensures.lines c.else-k-n.either) fits
+    let fits : c.args.n ≤ length c.enter_name-k.new.names = omega arith in
+    name_enters c.args.text.now c.args.records.now c.args.w c.args.n c.args.names.now _ c.requires.0 c.in-Name.field-0 c.in-Name.is _ refl refl c.enter_name-k.ensures.number c.enter_name-k.new.names c.enter_name-k.ensures.lines _
+    (next_known c.args.text.now c.args.records.now c.args.w c.args.n c.args.names.now c.enter_name-k.result c.enter_name-k.ensures.number c.enter_name-k.new.names c.enter_name-k.ensures.lines c.else-k-n.either) fits

@@ -1,4 +1,4 @@
 use Rattle.analysis.proofs.types.+exp_offence.Given as goal
 
-abbrev pub decreases-exp-offence : goal.decreases-exp-offence
-decreases-exp-offence l = l.i
+abbrev pub decreases-exp_offence : goal.decreases-exp_offence
+decreases-exp_offence l = l.i

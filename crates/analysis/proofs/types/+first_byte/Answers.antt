@@ -14,13 +14,13 @@ returns-in-Literal t c = λ v e held p h.
 
 pub returns-in-Simple : goal.returns-in-Simple
 returns-in-Simple t c = λ v e held p h.
-    from_simple (At c.place-of.result) (exp_node c.args.records.now v c.args.i _ held c.in-Simple.ensures.is e h)
-    (λ x n. c.place-of.ensures ∙ p c.in-Simple.w x n)
+    from_simple (At c.place_of.result) (exp_node c.args.records.now v c.args.i _ held c.in-Simple.ensures.is e h)
+    (λ x n. c.place_of.ensures ∙ p c.in-Simple.w x n)
 
 pub returns-in-Subscripted : goal.returns-in-Subscripted
 returns-in-Subscripted t c = λ v e held p h.
-    from_subscripted (At c.place-of-in-Subscripted.result) (exp_node c.args.records.now v c.args.i _ held c.in-Subscripted.ensures.is e h)
-    (λ x g n k. c.place-of-in-Subscripted.ensures ∙ p c.in-Subscripted.w x n)
+    from_subscripted (At c.place_of-in-Subscripted.result) (exp_node c.args.records.now v c.args.i _ held c.in-Subscripted.ensures.is e h)
+    (λ x g n k. c.place_of-in-Subscripted.ensures ∙ p c.in-Subscripted.w x n)
 
 pub returns-in-Prefixed : goal.returns-in-Prefixed
 returns-in-Prefixed t c = λ v e held p h.
@@ -28,8 +28,8 @@ returns-in-Prefixed t c = λ v e held p h.
 
 pub returns-in-Joined : goal.returns-in-Joined
 returns-in-Joined t c = λ v e held p h.
-    from_joined (At c.first-byte.result) (exp_node c.args.records.now v c.args.i _ held c.in-Joined.ensures.is e h)
-    (λ g k l m. c.first-byte.ensures v g held p l)
+    from_joined (At c.first_byte.result) (exp_node c.args.records.now v c.args.i _ held c.in-Joined.ensures.is e h)
+    (λ g k l m. c.first_byte.ensures v g held p l)
 
 pub returns-in-Bracketed : goal.returns-in-Bracketed
 returns-in-Bracketed t c = λ v e held p h.
@@ -39,7 +39,7 @@ pub returns-in-Compared : goal.returns-in-Compared
 returns-in-Compared t c = λ v e held p h.
     from_compared (At c.in-Compared.p) (exp_node c.args.records.now v c.args.i _ held c.in-Compared.ensures.is e h) (λ g k l m. refl)
 
-pub returns-in-default : goal.returns-in-default
-returns-in-default t c = λ v e held p h.
-    absurd (no_exp (exp_node c.args.records.now v c.args.i c.ordered-node.result held c.ordered-node.ensures.is e h)
-    c.in-default.not-Literal c.in-default.not-Simple c.in-default.not-Subscripted c.in-default.not-Prefixed c.in-default.not-Joined c.in-default.not-Bracketed c.in-default.not-Compared)
+pub returns-in_default : goal.returns-in_default
+returns-in_default t c = λ v e held p h.
+    absurd (no_exp (exp_node c.args.records.now v c.args.i c.ordered_node.result held c.ordered_node.ensures.is e h)
+    c.in_default.not-Literal c.in_default.not-Simple c.in_default.not-Subscripted c.in_default.not-Prefixed c.in_default.not-Joined c.in_default.not-Bracketed c.in_default.not-Compared)

@@ -7,5 +7,5 @@ use Rattle.analysis.proofs.types.name_offence.Goals as goal
 pub returns : goal.returns
 returns c = λ v ss x h p n.
     told_same c.told.ensures
-    (c.differs.ensures ∙ ap (λ (t : PartType). differs (part_in c.args.want) t) (c.name-type.ensures v ss x h n))
-    (c.place-of.ensures ∙ p c.args.w x n)
+    (c.differs.ensures ∙ ap (λ (t : PartType). differs (part_in c.args.want) t) (c.name_type.ensures v ss x h n))
+    (c.place_of.ensures ∙ p c.args.w x n)

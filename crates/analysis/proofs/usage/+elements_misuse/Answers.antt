@@ -16,20 +16,20 @@ pub returns-in-More : goal.returns-in-More
 returns-in-More t c = λ v ss es h p k.
     from_more (At ss c.earlier.result) (elements_node c.args.records.now v c.args.i _ h.nodes c.in-More.ensures.is es k)
     (λ fs f l m. c.earlier.ensures
-    ∙ earliest_misused ss c.elements-misuse-before.result c.elements-misuse-last.result (each in_element fs) (in_element f)
-    (c.elements-misuse-before.ensures v ss fs h p l) (c.elements-misuse-last.ensures v ss (one f) h p m))
+    ∙ earliest_misused ss c.elements_misuse-before.result c.elements_misuse-last.result (each in_element fs) (in_element f)
+    (c.elements_misuse-before.ensures v ss fs h p l) (c.elements_misuse-last.ensures v ss (one f) h p m))
 
 pub returns-in-Progression : goal.returns-in-Progression
 returns-in-Progression t c = λ v ss es h p k.
     from_progression (At ss c.earlier-in-Progression.result) (elements_node c.args.records.now v c.args.i _ h.nodes c.in-Progression.ensures.is es k)
     (λ e f g l m n. c.earlier-in-Progression.ensures
-    ∙ earliest_misused ss c.exp-misuse-from.result c.earlier-rest.result (in_exp e) (in_exp f ++ in_exp g)
-    (c.exp-misuse-from.ensures v ss e h p l)
+    ∙ earliest_misused ss c.exp_misuse-from.result c.earlier-rest.result (in_exp e) (in_exp f ++ in_exp g)
+    (c.exp_misuse-from.ensures v ss e h p l)
     (c.earlier-rest.ensures
-    ∙ earliest_misused ss c.exp-misuse-step.result c.exp-misuse-limit.result (in_exp f) (in_exp g)
-    (c.exp-misuse-step.ensures v ss f h p m) (c.exp-misuse-limit.ensures v ss g h p n)))
+    ∙ earliest_misused ss c.exp_misuse-step.result c.exp_misuse-limit.result (in_exp f) (in_exp g)
+    (c.exp_misuse-step.ensures v ss f h p m) (c.exp_misuse-limit.ensures v ss g h p n)))
 
-pub returns-in-default : goal.returns-in-default
-returns-in-default t c = λ v ss es h p k.
-    from_single (At ss c.exp-misuse.result) (elements_node c.args.records.now v c.args.i c.ordered-node.result h.nodes c.ordered-node.ensures.is es k)
-    c.in-default.not-More c.in-default.not-Progression (λ e l. c.exp-misuse.ensures v ss e h p l)
+pub returns-in_default : goal.returns-in_default
+returns-in_default t c = λ v ss es h p k.
+    from_single (At ss c.exp_misuse.result) (elements_node c.args.records.now v c.args.i c.ordered_node.result h.nodes c.ordered_node.ensures.is es k)
+    c.in_default.not-More c.in_default.not-Progression (λ e l. c.exp_misuse.ensures v ss e h p l)

@@ -1,4 +1,4 @@
 use Rattle.analysis.proofs.usage.+elements_misuse.Given as goal
 
-abbrev pub decreases-elements-misuse : goal.decreases-elements-misuse
-decreases-elements-misuse l = l.i
+abbrev pub decreases-elements_misuse : goal.decreases-elements_misuse
+decreases-elements_misuse l = l.i

@@ -16,14 +16,14 @@ pub returns-in-More : goal.returns-in-More
 returns-in-More t c = λ v ss xs h p k.
     from_names (At ss c.earlier.result) (names_node c.args.records.now v c.args.i _ h.nodes c.in-More.ensures.is xs k)
     (λ ys x l m. c.earlier.ensures
-    ∙ earliest_misused ss c.labels-misuse-before.result c.labels-misuse-last.result (all_at in_switch ys) (at in_switch x ∷ [])
-    (c.labels-misuse-before.ensures v ss ys h p l) (c.labels-misuse-last.ensures v ss (one x) h p m))
+    ∙ earliest_misused ss c.labels_misuse-before.result c.labels_misuse-last.result (all_at in_switch ys) (at in_switch x ∷ [])
+    (c.labels_misuse-before.ensures v ss ys h p l) (c.labels_misuse-last.ensures v ss (one x) h p m))
 
 pub returns-in-Simple : goal.returns-in-Simple
 returns-in-Simple t c = λ v ss xs h p k.
-    from_name (At ss c.name-misuse.result) (names_node c.args.records.now v c.args.i _ h.nodes c.in-Simple.ensures.is xs k)
-    (λ x n. one_misused ss c.name-misuse.result (at in_switch x) (c.name-misuse.ensures v ss x h p n))
+    from_name (At ss c.name_misuse.result) (names_node c.args.records.now v c.args.i _ h.nodes c.in-Simple.ensures.is xs k)
+    (λ x n. one_misused ss c.name_misuse.result (at in_switch x) (c.name_misuse.ensures v ss x h p n))
 
-pub returns-in-default : goal.returns-in-default
-returns-in-default t c = λ v ss xs h p k.
-    absurd (no_names (names_node c.args.records.now v c.args.i c.ordered-node.result h.nodes c.ordered-node.ensures.is xs k) c.in-default.not-More c.in-default.not-Simple)
+pub returns-in_default : goal.returns-in_default
+returns-in_default t c = λ v ss xs h p k.
+    absurd (no_names (names_node c.args.records.now v c.args.i c.ordered_node.result h.nodes c.ordered_node.ensures.is xs k) c.in_default.not-More c.in_default.not-Simple)

@@ -19,70 +19,70 @@ pub returns-in-More : goal.returns-in-More
 returns-in-More t c = λ v ss u h p k.
     from_joined (At ss c.earlier.result) (items_node c.args.records.now v c.args.i _ h.nodes c.in-More.ensures.is u k)
     (λ ts x l m. c.earlier.ensures
-    ∙ earliest_misused ss c.misuse-offence-before.result c.misuse-offence-last.result (each in_item ts) (in_item x)
-    (c.misuse-offence-before.ensures v ss ts h p l) (c.misuse-offence-last.ensures v ss (one x) h p m))
+    ∙ earliest_misused ss c.misuse_offence-before.result c.misuse_offence-last.result (each in_item ts) (in_item x)
+    (c.misuse_offence-before.ensures v ss ts h p l) (c.misuse_offence-last.ensures v ss (one x) h p m))
     (λ s y l m. c.earlier.ensures
-    ∙ earliest_misused ss c.misuse-offence-before.result c.misuse-offence-last.result (in_statement s) (in_statement y)
-    (c.misuse-offence-before.ensures v ss (act s) h p l) (c.misuse-offence-last.ensures v ss (act y) h p m))
+    ∙ earliest_misused ss c.misuse_offence-before.result c.misuse_offence-last.result (in_statement s) (in_statement y)
+    (c.misuse_offence-before.ensures v ss (act s) h p l) (c.misuse_offence-last.ensures v ss (act y) h p m))
 
 pub returns-in-Labelled : goal.returns-in-Labelled
 returns-in-Labelled t c = λ v ss u h p k.
-    from_labelled (At ss c.misuse-offence.result) (items_node c.args.records.now v c.args.i _ h.nodes c.in-Labelled.ensures.is u k)
-    (λ x s n l. c.misuse-offence.ensures v ss (act s) h p l)
+    from_labelled (At ss c.misuse_offence.result) (items_node c.args.records.now v c.args.i _ h.nodes c.in-Labelled.ensures.is u k)
+    (λ x s n l. c.misuse_offence.ensures v ss (act s) h p l)
 
 pub returns-in-Conditional : goal.returns-in-Conditional
 returns-in-Conditional t c = λ v ss u h p k.
     from_conditional (At ss c.earlier-in-Conditional.result) (items_node c.args.records.now v c.args.i _ h.nodes c.in-Conditional.ensures.is u k)
     (λ e s l m. c.earlier-in-Conditional.ensures
-    ∙ earliest_misused ss c.exp-misuse-test.result c.misuse-offence-governed.result (in_exp e) (in_statement s)
-    (c.exp-misuse-test.ensures v ss e h p l) (c.misuse-offence-governed.ensures v ss (act s) h p m))
+    ∙ earliest_misused ss c.exp_misuse-test.result c.misuse_offence-governed.result (in_exp e) (in_statement s)
+    (c.exp_misuse-test.ensures v ss e h p l) (c.misuse_offence-governed.ensures v ss (act s) h p m))
 
 pub returns-in-Repeated : goal.returns-in-Repeated
 returns-in-Repeated t c = λ v ss u h p k.
     from_repeated (At ss c.earlier-in-Repeated.result) (items_node c.args.records.now v c.args.i _ h.nodes c.in-Repeated.ensures.is u k)
     (λ x es s n l m. c.earlier-in-Repeated.ensures
-    ∙ both c.name-misuse-variable.result c.earlier-rest.result (told (not (suits (kind_in ss x.letters) as_variable)) x.place) (misused_names ss (each in_element es ++ in_statement s))
-    (c.name-misuse-variable.ensures v ss x h p n)
+    ∙ both c.name_misuse-variable.result c.earlier-rest.result (told (not (suits (kind_in ss x.letters) as_variable)) x.place) (misused_names ss (each in_element es ++ in_statement s))
+    (c.name_misuse-variable.ensures v ss x h p n)
     (c.earlier-rest.ensures
-    ∙ earliest_misused ss c.elements-misuse-listed.result c.misuse-offence-body.result (each in_element es) (in_statement s)
-    (c.elements-misuse-listed.ensures v ss es h p l) (c.misuse-offence-body.ensures v ss (act s) h p m)))
+    ∙ earliest_misused ss c.elements_misuse-listed.result c.misuse_offence-body.result (each in_element es) (in_statement s)
+    (c.elements_misuse-listed.ensures v ss es h p l) (c.misuse_offence-body.ensures v ss (act s) h p m)))
 
 pub returns-in-Assigned : goal.returns-in-Assigned
 returns-in-Assigned t c = λ v ss u h p k.
     from_assigned (At ss c.earlier-in-Assigned.result) (items_node c.args.records.now v c.args.i _ h.nodes c.in-Assigned.ensures.is u k)
     (λ y e l m. c.earlier-in-Assigned.ensures
-    ∙ earliest_misused ss c.exp-misuse-left.result c.exp-misuse-right.result (in_exp (value_of y)) (in_exp e)
-    (c.exp-misuse-left.ensures v ss (value_of y) h p (value_at v y c.in-Assigned.a l)) (c.exp-misuse-right.ensures v ss e h p m))
+    ∙ earliest_misused ss c.exp_misuse-left.result c.exp_misuse-right.result (in_exp (value_of y)) (in_exp e)
+    (c.exp_misuse-left.ensures v ss (value_of y) h p (value_at v y c.in-Assigned.a l)) (c.exp_misuse-right.ensures v ss e h p m))
 
 pub returns-in-Go : goal.returns-in-Go
 returns-in-Go t c = λ v ss u h p k.
-    from_go (At ss c.name-misuse.result) (items_node c.args.records.now v c.args.i _ h.nodes c.in-Go.ensures.is u k)
-    (λ x n. one_misused ss c.name-misuse.result (at as_target x) (c.name-misuse.ensures v ss x h p n))
+    from_go (At ss c.name_misuse.result) (items_node c.args.records.now v c.args.i _ h.nodes c.in-Go.ensures.is u k)
+    (λ x n. one_misused ss c.name_misuse.result (at as_target x) (c.name_misuse.ensures v ss x h p n))
 
 pub returns-in-Switched : goal.returns-in-Switched
 returns-in-Switched t c = λ v ss u h p k.
     from_switched (At ss c.earlier-in-Switched.result) (items_node c.args.records.now v c.args.i _ h.nodes c.in-Switched.ensures.is u k)
     (λ x e n l. c.earlier-in-Switched.ensures
-    ∙ both c.name-misuse-selector.result c.exp-misuse-subscript.result (told (not (suits (kind_in ss x.letters) as_selector)) x.place) (misused_names ss (in_exp e))
-    (c.name-misuse-selector.ensures v ss x h p n) (c.exp-misuse-subscript.ensures v ss e h p l))
+    ∙ both c.name_misuse-selector.result c.exp_misuse-subscript.result (told (not (suits (kind_in ss x.letters) as_selector)) x.place) (misused_names ss (in_exp e))
+    (c.name_misuse-selector.ensures v ss x h p n) (c.exp_misuse-subscript.ensures v ss e h p l))
 
 pub returns-in-Input : goal.returns-in-Input
 returns-in-Input t c = λ v ss u h p k.
-    from_input (At ss c.exp-misuse.result) (items_node c.args.records.now v c.args.i _ h.nodes c.in-Input.ensures.is u k)
-    (λ y l. c.exp-misuse.ensures v ss (value_of y) h p (value_at v y c.in-Input.a l))
+    from_input (At ss c.exp_misuse.result) (items_node c.args.records.now v c.args.i _ h.nodes c.in-Input.ensures.is u k)
+    (λ y l. c.exp_misuse.ensures v ss (value_of y) h p (value_at v y c.in-Input.a l))
 
 pub returns-in-Printed : goal.returns-in-Printed
 returns-in-Printed t c = λ v ss u h p k.
-    from_printed (At ss c.elements-misuse.result) (items_node c.args.records.now v c.args.i _ h.nodes c.in-Printed.ensures.is u k)
-    (λ es l. c.elements-misuse.ensures v ss (singles es) h p (singles_at v es c.in-Printed.es l)
+    from_printed (At ss c.elements_misuse.result) (items_node c.args.records.now v c.args.i _ h.nodes c.in-Printed.ensures.is u k)
+    (λ es l. c.elements_misuse.ensures v ss (singles es) h p (singles_at v es c.in-Printed.es l)
     ∙ ap (λ (os : List Occurrence). earliest_of (misused_names ss os)) (each_single in_element es))
 
 pub returns-in-Switch : goal.returns-in-Switch
 returns-in-Switch t c = λ v ss u h p k.
-    from_switch (At ss c.labels-misuse.result) (items_node c.args.records.now v c.args.i _ h.nodes c.in-Switch.ensures.is u k)
-    (λ x xs n l. c.labels-misuse.ensures v ss xs h p l)
+    from_switch (At ss c.labels_misuse.result) (items_node c.args.records.now v c.args.i _ h.nodes c.in-Switch.ensures.is u k)
+    (λ x xs n l. c.labels_misuse.ensures v ss xs h p l)
 
-pub returns-in-default : goal.returns-in-default
-returns-in-default t c = λ v ss u h p k.
-    no_use ss (items_node c.args.records.now v c.args.i c.ordered-node.result h.nodes c.ordered-node.ensures.is u k)
-    c.in-default.not-More c.in-default.not-Labelled c.in-default.not-Conditional c.in-default.not-Repeated c.in-default.not-Assigned c.in-default.not-Go c.in-default.not-Switched c.in-default.not-Input c.in-default.not-Printed c.in-default.not-Switch
+pub returns-in_default : goal.returns-in_default
+returns-in_default t c = λ v ss u h p k.
+    no_use ss (items_node c.args.records.now v c.args.i c.ordered_node.result h.nodes c.ordered_node.ensures.is u k)
+    c.in_default.not-More c.in_default.not-Labelled c.in_default.not-Conditional c.in_default.not-Repeated c.in_default.not-Assigned c.in_default.not-Go c.in_default.not-Switched c.in_default.not-Input c.in_default.not-Printed c.in_default.not-Switch

@@ -6,5 +6,5 @@ use Rattle.analysis.proofs.usage.name_misuse.Goals as goal
 pub returns : goal.returns
 returns c = λ v ss x h p n.
     told_same c.told.ensures
-    (ap (λ (b : Bool). not b) (c.does-suit-suited.ensures ∙ suits_alike (c.kind-of.ensures v ss x h n) c.args.usage))
-    (c.place-of.ensures ∙ p c.args.w x n)
+    (ap (λ (b : Bool). not b) (c.does_suit-suited.ensures ∙ suits_alike (c.kind_of.ensures v ss x h n) c.args.usage))
+    (c.place_of.ensures ∙ p c.args.w x n)

@@ -18,176 +18,176 @@ use Rattle.parser.proofs.table.Parser.+block_conditional_repetition_statement_st
 pub block-open-requires : goal.block-open-requires
 block-open-requires t c = record { ready = c.requires.ready; left = word_left (the_keyword Begin) tt c.args.self.now c.requires.begins }
 
-pub block-returns-in-err-inner : goal.block-returns-in-err-inner
-block-returns-in-err-inner t c =
-    let p = err_from_is_err_and c.from-residual.result c.from-residual.ensures.1 in
-    rw (p.1, p.2) (statement_deep Begin (λ _. block_script) c.requires.ready c.requires.begins (λ d b k. refl) c.open.new.self _ refl c.open.ensures.moves c.in-err-inner.ensures.opens)
+pub block-returns-in_err-inner : goal.block-returns-in_err-inner
+block-returns-in_err-inner t c =
+    let p = err_from_is_err_and c.from_residual.result c.from_residual.ensures.1 in
+    rw (p.1, p.2) (statement_deep Begin (λ _. block_script) c.requires.ready c.requires.begins (λ d b k. refl) c.open.new.self _ refl c.open.ensures.moves c.in_err-inner.ensures.opens)
 
-pub block-returns-in-err-all : goal.block-returns-in-err-all
-block-returns-in-err-all t c =
-    let p = err_from_is_err_and c.from-residual-in-err-all.result c.from-residual-in-err-all.ensures.1 in
-    let o = c.in-ok-inner.ensures.opens in
-    rw (p.1, p.2) (stops_behind_deeper c.statements.new.self _ c.statements.ensures.moves o.level tt (block_begun c.requires.ready c.requires.begins o) c.in-err-all.ensures.reads)
+pub block-returns-in_err-all : goal.block-returns-in_err-all
+block-returns-in_err-all t c =
+    let p = err_from_is_err_and c.from_residual-in_err-all.result c.from_residual-in_err-all.ensures.1 in
+    let o = c.in_ok-inner.ensures.opens in
+    rw (p.1, p.2) (stops_behind_deeper c.statements.new.self _ c.statements.ensures.moves o.level tt (block_begun c.requires.ready c.requires.begins o) c.in_err-all.ensures.reads)
 
-pub block-returns-in-err-expect-keyword : goal.block-returns-in-err-expect-keyword
-block-returns-in-err-expect-keyword t c =
-    let p = err_from_is_err_and c.from-residual-in-err-expect-keyword.result c.from-residual-in-err-expect-keyword.ensures.1 in
-    rw (p.1, p.2) (stops_missing_deeper c.expect-keyword.new.self _ c.expect-keyword.ensures.moves
-    (block_inside c.requires.ready c.requires.begins c.in-ok-inner.ensures.opens c.in-ok-all.ensures.reads) c.in-err-expect-keyword.ensures.took)
+pub block-returns-in_err-expect_keyword : goal.block-returns-in_err-expect_keyword
+block-returns-in_err-expect_keyword t c =
+    let p = err_from_is_err_and c.from_residual-in_err-expect_keyword.result c.from_residual-in_err-expect_keyword.ensures.1 in
+    rw (p.1, p.2) (stops_missing_deeper c.expect_keyword.new.self _ c.expect_keyword.ensures.moves
+    (block_inside c.requires.ready c.requires.begins c.in_ok-inner.ensures.opens c.in_ok-all.ensures.reads) c.in_err-expect_keyword.ensures.took)
 
 pub block-returns : goal.block-returns
-block-returns t c = block_read c.requires.ready c.requires.begins c.in-ok-inner.ensures.opens c.in-ok-all.ensures.reads c.in-ok-expect-keyword.ensures.took
+block-returns t c = block_read c.requires.ready c.requires.begins c.in_ok-inner.ensures.opens c.in_ok-all.ensures.reads c.in_ok-expect_keyword.ensures.took
 
 pub conditional-open-requires : goal.conditional-open-requires
 conditional-open-requires t c = record { ready = c.requires.ready; left = word_left (the_keyword If) tt c.args.self.now c.requires.begins }
 
-pub conditional-returns-in-err-inner : goal.conditional-returns-in-err-inner
-conditional-returns-in-err-inner t c =
-    let p = err_from_is_err_and c.from-residual.result c.from-residual.ensures.1 in
-    rw (p.1, p.2) (statement_deep If conditional_script c.requires.ready c.requires.begins (λ d b k. refl) c.open.new.self _ refl c.open.ensures.moves c.in-err-inner.ensures.opens)
+pub conditional-returns-in_err-inner : goal.conditional-returns-in_err-inner
+conditional-returns-in_err-inner t c =
+    let p = err_from_is_err_and c.from_residual.result c.from_residual.ensures.1 in
+    rw (p.1, p.2) (statement_deep If conditional_script c.requires.ready c.requires.begins (λ d b k. refl) c.open.new.self _ refl c.open.ensures.moves c.in_err-inner.ensures.opens)
 
-pub conditional-returns-in-err-condition : goal.conditional-returns-in-err-condition
-conditional-returns-in-err-condition t c =
-    let p = err_from_is_err_and c.from-residual-in-err-condition.result c.from-residual-in-err-condition.ensures.1 in
-    let o = c.in-ok-inner.ensures.opens in
-    rw (p.1, p.2) (stops_behind_deeper c.expression.new.self _ c.expression.ensures.moves o.level tt (if_begun c.requires.ready c.requires.begins o) c.in-err-condition.ensures.reads)
+pub conditional-returns-in_err-condition : goal.conditional-returns-in_err-condition
+conditional-returns-in_err-condition t c =
+    let p = err_from_is_err_and c.from_residual-in_err-condition.result c.from_residual-in_err-condition.ensures.1 in
+    let o = c.in_ok-inner.ensures.opens in
+    rw (p.1, p.2) (stops_behind_deeper c.expression.new.self _ c.expression.ensures.moves o.level tt (if_begun c.requires.ready c.requires.begins o) c.in_err-condition.ensures.reads)
 
-pub conditional-returns-in-err-expect-mark : goal.conditional-returns-in-err-expect-mark
-conditional-returns-in-err-expect-mark t c =
-    let p = err_from_is_err_and c.from-residual-in-err-expect-mark.result c.from-residual-in-err-expect-mark.ensures.1 in
-    rw (p.1, p.2) (stops_missing_deeper c.expect-mark.new.self _ c.expect-mark.ensures.moves
-    (condition_read c.requires.ready c.requires.begins c.in-ok-inner.ensures.opens c.in-ok-condition.ensures.reads) c.in-err-expect-mark.ensures.took)
+pub conditional-returns-in_err-expect_mark : goal.conditional-returns-in_err-expect_mark
+conditional-returns-in_err-expect_mark t c =
+    let p = err_from_is_err_and c.from_residual-in_err-expect_mark.result c.from_residual-in_err-expect_mark.ensures.1 in
+    rw (p.1, p.2) (stops_missing_deeper c.expect_mark.new.self _ c.expect_mark.ensures.moves
+    (condition_read c.requires.ready c.requires.begins c.in_ok-inner.ensures.opens c.in_ok-condition.ensures.reads) c.in_err-expect_mark.ensures.took)
 
-pub conditional-returns-in-err-body : goal.conditional-returns-in-err-body
-conditional-returns-in-err-body t c =
-    let p = err_from_is_err_and c.from-residual-in-err-body.result c.from-residual-in-err-body.ensures.1 in
-    let o = c.in-ok-inner.ensures.opens in
+pub conditional-returns-in_err-body : goal.conditional-returns-in_err-body
+conditional-returns-in_err-body t c =
+    let p = err_from_is_err_and c.from_residual-in_err-body.result c.from_residual-in_err-body.ensures.1 in
+    let o = c.in_ok-inner.ensures.opens in
     rw (p.1, p.2) (stops_behind_deeper c.statement.new.self _ c.statement.ensures.moves o.level tt
-    (if_body_begun c.requires.ready c.requires.begins o c.in-ok-condition.ensures.reads c.in-ok-expect-mark.ensures.took) c.in-err-body.ensures.reads)
+    (if_body_begun c.requires.ready c.requires.begins o c.in_ok-condition.ensures.reads c.in_ok-expect_mark.ensures.took) c.in_err-body.ensures.reads)
 
 pub conditional-returns : goal.conditional-returns
 conditional-returns t c =
-    conditional_read c.requires.ready c.requires.begins c.in-ok-inner.ensures.opens c.in-ok-condition.ensures.reads c.in-ok-expect-mark.ensures.took
-    c.statement.new.self c.make.new.self c.in-ok-body.body c.place-place.result c.make.result c.in-ok-body.ensures.reads c.place-place.ensures c.make.ensures
+    conditional_read c.requires.ready c.requires.begins c.in_ok-inner.ensures.opens c.in_ok-condition.ensures.reads c.in_ok-expect_mark.ensures.took
+    c.statement.new.self c.make.new.self c.in_ok-body.body c.place-place.result c.make.result c.in_ok-body.ensures.reads c.place-place.ensures c.make.ensures
 
 pub repetition-open-requires : goal.repetition-open-requires
 repetition-open-requires t c = record { ready = c.requires.ready; left = word_left (the_keyword For) tt c.args.self.now c.requires.begins }
 
-pub repetition-returns-in-err-inner : goal.repetition-returns-in-err-inner
-repetition-returns-in-err-inner t c =
-    let p = err_from_is_err_and c.from-residual.result c.from-residual.ensures.1 in
-    rw (p.1, p.2) (statement_deep For repetition_script c.requires.ready c.requires.begins (λ d b k. refl) c.open.new.self _ refl c.open.ensures.moves c.in-err-inner.ensures.opens)
+pub repetition-returns-in_err-inner : goal.repetition-returns-in_err-inner
+repetition-returns-in_err-inner t c =
+    let p = err_from_is_err_and c.from_residual.result c.from_residual.ensures.1 in
+    rw (p.1, p.2) (statement_deep For repetition_script c.requires.ready c.requires.begins (λ d b k. refl) c.open.new.self _ refl c.open.ensures.moves c.in_err-inner.ensures.opens)
 
-pub repetition-returns-in-err-name : goal.repetition-returns-in-err-name
-repetition-returns-in-err-name t c =
-    let p = err_from_is_err_and c.from-residual-in-err-name.result c.from-residual-in-err-name.ensures.1 in
-    rw (p.1, p.2) (stops_missing_deeper c.expect-name.new.self _ c.expect-name.ensures.moves (for_begun c.requires.ready c.requires.begins c.in-ok-inner.ensures.opens) c.in-err-name.ensures.took)
+pub repetition-returns-in_err-name : goal.repetition-returns-in_err-name
+repetition-returns-in_err-name t c =
+    let p = err_from_is_err_and c.from_residual-in_err-name.result c.from_residual-in_err-name.ensures.1 in
+    rw (p.1, p.2) (stops_missing_deeper c.expect_name.new.self _ c.expect_name.ensures.moves (for_begun c.requires.ready c.requires.begins c.in_ok-inner.ensures.opens) c.in_err-name.ensures.took)
 
-pub repetition-returns-in-err-expect-mark : goal.repetition-returns-in-err-expect-mark
-repetition-returns-in-err-expect-mark t c =
-    let p = err_from_is_err_and c.from-residual-in-err-expect-mark.result c.from-residual-in-err-expect-mark.ensures.1 in
-    rw (p.1, p.2) (stops_missing_deeper c.expect-mark.new.self _ c.expect-mark.ensures.moves
-    (for_named c.requires.ready c.requires.begins c.in-ok-inner.ensures.opens c.in-ok-name.ensures.took) c.in-err-expect-mark.ensures.took)
+pub repetition-returns-in_err-expect_mark : goal.repetition-returns-in_err-expect_mark
+repetition-returns-in_err-expect_mark t c =
+    let p = err_from_is_err_and c.from_residual-in_err-expect_mark.result c.from_residual-in_err-expect_mark.ensures.1 in
+    rw (p.1, p.2) (stops_missing_deeper c.expect_mark.new.self _ c.expect_mark.ensures.moves
+    (for_named c.requires.ready c.requires.begins c.in_ok-inner.ensures.opens c.in_ok-name.ensures.took) c.in_err-expect_mark.ensures.took)
 
-pub repetition-returns-in-err-elements : goal.repetition-returns-in-err-elements
-repetition-returns-in-err-elements t c =
-    let p = err_from_is_err_and c.from-residual-in-err-elements.result c.from-residual-in-err-elements.ensures.1 in
-    let o = c.in-ok-inner.ensures.opens in
+pub repetition-returns-in_err-elements : goal.repetition-returns-in_err-elements
+repetition-returns-in_err-elements t c =
+    let p = err_from_is_err_and c.from_residual-in_err-elements.result c.from_residual-in_err-elements.ensures.1 in
+    let o = c.in_ok-inner.ensures.opens in
     rw (p.1, p.2) (stops_behind_deeper c.elements.new.self _ c.elements.ensures.moves o.level tt
-    (elements_begun c.requires.ready c.requires.begins o c.in-ok-name.ensures.took c.in-ok-expect-mark.ensures.took) c.in-err-elements.ensures.reads)
+    (elements_begun c.requires.ready c.requires.begins o c.in_ok-name.ensures.took c.in_ok-expect_mark.ensures.took) c.in_err-elements.ensures.reads)
 
-pub repetition-returns-in-err-expect-mark-2 : goal.repetition-returns-in-err-expect-mark-2
-repetition-returns-in-err-expect-mark-2 t c =
-    let p = err_from_is_err_and c.from-residual-in-err-expect-mark-2.result c.from-residual-in-err-expect-mark-2.ensures.1 in
-    rw (p.1, p.2) (stops_missing_deeper c.expect-mark-2.new.self _ c.expect-mark-2.ensures.moves
-    (elements_read c.requires.ready c.requires.begins c.in-ok-inner.ensures.opens c.in-ok-name.ensures.took c.in-ok-expect-mark.ensures.took c.in-ok-elements.ensures.reads)
-    c.in-err-expect-mark-2.ensures.took)
+pub repetition-returns-in_err-expect_mark-2 : goal.repetition-returns-in_err-expect_mark-2
+repetition-returns-in_err-expect_mark-2 t c =
+    let p = err_from_is_err_and c.from_residual-in_err-expect_mark-2.result c.from_residual-in_err-expect_mark-2.ensures.1 in
+    rw (p.1, p.2) (stops_missing_deeper c.expect_mark-2.new.self _ c.expect_mark-2.ensures.moves
+    (elements_read c.requires.ready c.requires.begins c.in_ok-inner.ensures.opens c.in_ok-name.ensures.took c.in_ok-expect_mark.ensures.took c.in_ok-elements.ensures.reads)
+    c.in_err-expect_mark-2.ensures.took)
 
-pub repetition-returns-in-err-body : goal.repetition-returns-in-err-body
-repetition-returns-in-err-body t c =
-    let p = err_from_is_err_and c.from-residual-in-err-body.result c.from-residual-in-err-body.ensures.1 in
-    let o = c.in-ok-inner.ensures.opens in
+pub repetition-returns-in_err-body : goal.repetition-returns-in_err-body
+repetition-returns-in_err-body t c =
+    let p = err_from_is_err_and c.from_residual-in_err-body.result c.from_residual-in_err-body.ensures.1 in
+    let o = c.in_ok-inner.ensures.opens in
     rw (p.1, p.2) (stops_behind_deeper c.statement.new.self _ c.statement.ensures.moves o.level tt
-    (for_body_begun c.requires.ready c.requires.begins o c.in-ok-name.ensures.took c.in-ok-expect-mark.ensures.took c.in-ok-elements.ensures.reads c.in-ok-expect-mark-2.ensures.took)
-    c.in-err-body.ensures.reads)
+    (for_body_begun c.requires.ready c.requires.begins o c.in_ok-name.ensures.took c.in_ok-expect_mark.ensures.took c.in_ok-elements.ensures.reads c.in_ok-expect_mark-2.ensures.took)
+    c.in_err-body.ensures.reads)
 
 pub repetition-returns : goal.repetition-returns
 repetition-returns t c =
-    repeated_read c.requires.ready c.requires.begins c.in-ok-inner.ensures.opens c.in-ok-name.ensures.took c.in-ok-expect-mark.ensures.took c.in-ok-elements.ensures.reads
-    c.in-ok-expect-mark-2.ensures.took c.statement.new.self c.make.new.self c.in-ok-body.body c.place-place.result c.make.result
-    c.in-ok-body.ensures.reads c.place-place.ensures c.make.ensures
+    repeated_read c.requires.ready c.requires.begins c.in_ok-inner.ensures.opens c.in_ok-name.ensures.took c.in_ok-expect_mark.ensures.took c.in_ok-elements.ensures.reads
+    c.in_ok-expect_mark-2.ensures.took c.statement.new.self c.make.new.self c.in_ok-body.body c.place-place.result c.make.result
+    c.in_ok-body.ensures.reads c.place-place.ensures c.make.ensures
 
-pub statement-returns-in-err-inner : goal.statement-returns-in-err-inner
-statement-returns-in-err-inner t c =
-    let p = err_from_is_err_and c.from-residual.result c.from-residual.ensures.1 in
-    let l = c.skip-labels-labels.ensures.passed in
+pub statement-returns-in_err-inner : goal.statement-returns-in_err-inner
+statement-returns-in_err-inner t c =
+    let p = err_from_is_err_and c.from_residual.result c.from_residual.ensures.1 in
+    let l = c.skip_labels-labels.ensures.passed in
     record {
-      moves = moves_trans c.args.self.now c.skip-labels-labels.new.self c.unlabelled.new.self l.moves c.unlabelled.ensures.moves;
-      reads = rw (p.1, p.2) (labelled_fails c.args.levels l _ c.in-err-inner.ensures.reads);
+      moves = moves_trans c.args.self.now c.skip_labels-labels.new.self c.unlabelled.new.self l.moves c.unlabelled.ensures.moves;
+      reads = rw (p.1, p.2) (labelled_fails c.args.levels l _ c.in_err-inner.ensures.reads);
     }
 
 pub statement-label-requires : goal.statement-label-requires
 statement-label-requires t c =
-    let l = c.skip-labels-labels.ensures.passed in
-    let m = c.in-ok-inner.ensures.moves in
+    let l = c.skip_labels-labels.ensures.passed in
+    let m = c.in_ok-inner.ensures.moves in
     record {
       ready = m.ready;
       behind = omega (arith, l.on, m.on);
       paid = omega (arith, l.on, l.made, m.thrift, c.requires.thrift);
-      made = c.in-ok-inner.ensures.reads.below;
+      made = c.in_ok-inner.ensures.reads.below;
     }
 
 pub statement-returns : goal.statement-returns
 statement-returns t c =
-    labelled_read c.args.levels c.skip-labels-labels.ensures.passed c.unlabelled.new.self c.label.new.self c.in-ok-inner.inner c.label.result c.requires c.in-ok-inner.ensures.reads c.label.ensures
+    labelled_read c.args.levels c.skip_labels-labels.ensures.passed c.unlabelled.new.self c.label.new.self c.in_ok-inner.inner c.label.result c.requires c.in_ok-inner.ensures.reads c.label.ensures
 
-pub statements-returns-in-err-all : goal.statements-returns-in-err-all
-statements-returns-in-err-all t c =
-    let p = err_from_is_err_and c.from-residual.result c.from-residual.ensures.1 in
+pub statements-returns-in_err-all : goal.statements-returns-in_err-all
+statements-returns-in_err-all t c =
+    let p = err_from_is_err_and c.from_residual.result c.from_residual.ensures.1 in
     record {
       moves = c.statement.ensures.moves;
-      reads = rw (p.1, p.2) (row_fails statement StatementAt statement_stays c.args.levels c.args.self.now _ c.requires c.in-err-all.ensures.reads);
+      reads = rw (p.1, p.2) (row_fails statement StatementAt statement_stays c.args.levels c.args.self.now _ c.requires c.in_err-all.ensures.reads);
     }
 
 pub statements-loop-self-init : goal.statements-loop-self-init
 statements-loop-self-init t c =
-    row_none statement StatementAt statement_stays c.args.levels c.statement.new.self c.in-ok-all.all c.in-ok-all.ensures.moves.ready c.in-ok-all.ensures.reads.below
+    row_none statement StatementAt statement_stays c.args.levels c.statement.new.self c.in_ok-all.all c.in_ok-all.ensures.moves.ready c.in_ok-all.ensures.reads.below
 
-pub statements-take-mark-requires : goal.statements-take-mark-requires
-statements-take-mark-requires t c = c.loop-self.invariant.moves.ready
+pub statements-take_mark-requires : goal.statements-take_mark-requires
+statements-take_mark-requires t c = c.loop-self.invariant.moves.ready
 
-pub statements-returns-in-err-next : goal.statements-returns-in-err-next
-statements-returns-in-err-next t c =
-    let p = err_from_is_err_and c.from-residual-in-err-next.result c.from-residual-in-err-next.ensures.1 in
-    rw (p.1, p.2) (row_refused statement StatementAt statement_stays c.args.levels c.args.self.now c.statement.new.self c.in-ok-all.all c.loop-self.self c.loop-self.all
-    c.take-mark.new.self c.statement-in-loop-self.new.self _ c.requires c.in-ok-all.ensures.reads c.loop-self.invariant
-    c.loop-self-test.ensures.is c.loop-self-test.ensures.took c.statement-in-loop-self.ensures.moves c.in-err-next.ensures.reads)
+pub statements-returns-in_err-next : goal.statements-returns-in_err-next
+statements-returns-in_err-next t c =
+    let p = err_from_is_err_and c.from_residual-in_err-next.result c.from_residual-in_err-next.ensures.1 in
+    rw (p.1, p.2) (row_refused statement StatementAt statement_stays c.args.levels c.args.self.now c.statement.new.self c.in_ok-all.all c.loop-self.self c.loop-self.all
+    c.take_mark.new.self c.statement-in-loop-self.new.self _ c.requires c.in_ok-all.ensures.reads c.loop-self.invariant
+    c.loop-self-test.ensures.is c.loop-self-test.ensures.took c.statement-in-loop-self.ensures.moves c.in_err-next.ensures.reads)
 
 pub statements-make-all-requires : goal.statements-make-all-requires
 statements-make-all-requires t c =
-    row_paid statement StatementAt statement_stays c.args.levels c.statement.new.self c.in-ok-all.all c.loop-self.self c.loop-self.all c.take-mark.new.self c.statement-in-loop-self.new.self
-    c.loop-self.invariant c.loop-self-test.ensures.took c.in-ok-next.ensures.moves
+    row_paid statement StatementAt statement_stays c.args.levels c.statement.new.self c.in_ok-all.all c.loop-self.self c.loop-self.all c.take_mark.new.self c.statement-in-loop-self.new.self
+    c.loop-self.invariant c.loop-self-test.ensures.took c.in_ok-next.ensures.moves
 
 pub statements-loop-self-smaller : goal.statements-loop-self-smaller
 statements-loop-self-smaller t c =
-    row_falls statement StatementAt statement_stays c.loop-self.self c.take-mark.new.self c.statement-in-loop-self.new.self c.make-all.new.self c.loop-self.all c.in-ok-next.next c.make-all.result
-    c.loop-self-test.ensures.is c.loop-self-test.ensures.took c.in-ok-next.ensures.moves c.make-all.ensures
+    row_falls statement StatementAt statement_stays c.loop-self.self c.take_mark.new.self c.statement-in-loop-self.new.self c.make-all.new.self c.loop-self.all c.in_ok-next.next c.make-all.result
+    c.loop-self-test.ensures.is c.loop-self-test.ensures.took c.in_ok-next.ensures.moves c.make-all.ensures
 
 pub statements-loop-self-preserved : goal.statements-loop-self-preserved
 statements-loop-self-preserved t c =
-    row_again statement StatementAt statement_stays c.args.levels c.statement.new.self c.in-ok-all.all c.loop-self.self c.loop-self.all c.take-mark.new.self c.statement-in-loop-self.new.self c.make-all.new.self
-    c.in-ok-next.next c.make-all.result c.loop-self.invariant c.loop-self-test.ensures.is c.loop-self-test.ensures.took c.in-ok-next.ensures.reads c.make-all.ensures
+    row_again statement StatementAt statement_stays c.args.levels c.statement.new.self c.in_ok-all.all c.loop-self.self c.loop-self.all c.take_mark.new.self c.statement-in-loop-self.new.self c.make-all.new.self
+    c.in_ok-next.next c.make-all.result c.loop-self.invariant c.loop-self-test.ensures.is c.loop-self-test.ensures.took c.in_ok-next.ensures.reads c.make-all.ensures
 
 pub statements-returns : goal.statements-returns
 statements-returns t c =
-    row_ended statement StatementAt statement_stays c.args.levels c.args.self.now c.statement.new.self c.in-ok-all.all c.loop-self.self c.loop-self.all c.take-mark.new.self
-    c.requires c.in-ok-all.ensures.reads c.loop-self.invariant c.loop-self-test.ensures.is c.loop-self-test.ensures.took
+    row_ended statement StatementAt statement_stays c.args.levels c.args.self.now c.statement.new.self c.in_ok-all.all c.loop-self.self c.loop-self.all c.take_mark.new.self
+    c.requires c.in_ok-all.ensures.reads c.loop-self.invariant c.loop-self-test.ensures.is c.loop-self-test.ensures.took
 
 pub unlabelled-returns-in-None : goal.unlabelled-returns-in-None
 unlabelled-returns-in-None t c =
     let r = c.args.self.now in
     record {
       moves = moves_none r c.requires.ready;
-      reads = statement_missing c.args.levels r c.refuse.result c.requires.ready c.if-next-is-keyword.ensures c.if-next-is-keyword-2.ensures c.if-next-is-keyword-3.ensures c.if-next-is-keyword-4.ensures
-          c.if-next-is-keyword-5.ensures c.if-next-is-keyword-6.ensures c.if-next-is-keyword-7.ensures (name_missing r c.in-None.ensures) (record { reason = c.refuse.ensures.reason; place = c.refuse.ensures.place });
+      reads = statement_missing c.args.levels r c.refuse.result c.requires.ready c.if-next_is_keyword.ensures c.if-next_is_keyword-2.ensures c.if-next_is_keyword-3.ensures c.if-next_is_keyword-4.ensures
+          c.if-next_is_keyword-5.ensures c.if-next_is_keyword-6.ensures c.if-next_is_keyword-7.ensures (name_missing r c.in-None.ensures) (record { reason = c.refuse.ensures.reason; place = c.refuse.ensures.place });
     }

@@ -18,7 +18,7 @@ abbrev pub decreases-variable : goal.decreases-variable
 decreases-variable l = 4 * (l.self.now.count - l.self.now.at) + 1
 
 abbrev pub invariant-operated-loop-o : goal.invariant-operated-loop-o
-invariant-operated-loop-o l = OperatorsGo l.rank l.levels l.initial.self l.initial.left l.initial.up-to l.self l.left l.up-to
+invariant-operated-loop-o l = OperatorsGo l.rank l.levels l.initial.self l.initial.left l.initial.up_to l.self l.left l.up_to
 
 abbrev pub decreases-operated-loop-o : goal.decreases-operated-loop-o
 decreases-operated-loop-o l = l.self.count - l.self.at

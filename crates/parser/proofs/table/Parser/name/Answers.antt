@@ -11,7 +11,7 @@ use Rattle.parser.proofs.table.Parser.name.Goals as goal
 pub returns-in-Some : goal.returns-in-Some
 returns-in-Some c =
     let r = c.args.self.now in
-    let s = c.take-name.new.self in
+    let s = c.take_name.new.self in
     let q = c.make.new.self in
     let t = c.in-Some.ensures.took in
     let n = name_taken r c.in-Some.w c.in-Some.ensures.is in

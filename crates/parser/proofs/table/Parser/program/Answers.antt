@@ -7,10 +7,10 @@ use Rattle.parser.proofs.Tables.{ahead_cons, ahead_nil}
 use Rattle.parser.proofs.Items.{program_read, program_refused}
 use Rattle.parser.proofs.table.Parser.program.Goals as goal
 
-pub returns-in-err-root : goal.returns-in-err-root
-returns-in-err-root c =
-    let p = err_from_is_err_and c.from-residual.result c.from-residual.ensures.1 in
-    record { moves = c.items.ensures.moves; reads = rw (p.1, p.2) (c.in-err-root.ensures.reads c.args.levels 0 nothing (omega arith)) }
+pub returns-in_err-root : goal.returns-in_err-root
+returns-in_err-root c =
+    let p = err_from_is_err_and c.from_residual.result c.from_residual.ensures.1 in
+    record { moves = c.items.ensures.moves; reads = rw (p.1, p.2) (c.in_err-root.ensures.reads c.args.levels 0 nothing (omega arith)) }
 
 pub returns-then-self : goal.returns-then-self
 returns-then-self c =
@@ -18,7 +18,7 @@ returns-then-self c =
     let more = ap length (ahead_cons s.text.now s.count s.at s.table.now (record { word = record { token = Name 0; place = 0 }; symbol = 0; node = Empty }) (omega arith) c.items.ensures.moves.ready.room) in
     record {
       moves = c.items.ensures.moves;
-      reads = program_refused c.in-ok-root.ensures.reads c.refuse.result (omega (arith, more)) c.refuse.ensures.reason c.refuse.ensures.place;
+      reads = program_refused c.in_ok-root.ensures.reads c.refuse.result (omega (arith, more)) c.refuse.ensures.reason c.refuse.ensures.place;
     }
 
 pub returns : goal.returns
@@ -26,5 +26,5 @@ returns c =
     let s = c.items.new.self in
     record {
       moves = c.items.ensures.moves;
-      reads = program_read c.in-ok-root.ensures.reads (ahead_nil s.text.now s.count s.at s.table.now (omega arith));
+      reads = program_read c.in_ok-root.ensures.reads (ahead_nil s.text.now s.count s.at s.table.now (omega arith));
     }

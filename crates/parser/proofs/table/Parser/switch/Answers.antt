@@ -11,27 +11,27 @@ use Rattle.parser.proofs.table.Parser.switch.Goals as goal
 pub skip-requires : goal.skip-requires
 skip-requires c = record { ready = c.requires.ready; left = word_left (the_keyword Switch) tt c.args.self.now c.requires.begins }
 
-pub returns-in-err-name : goal.returns-in-err-name
-returns-in-err-name c =
-    let p = err_from_is_err_and c.from-residual.result c.from-residual.ensures.1 in
-    rw (p.1, p.2) (stops_missing c.expect-name.new.self _ c.expect-name.ensures.moves (switch_begun c.requires.ready c.requires.begins c.skip.ensures.took) c.in-err-name.ensures.took)
+pub returns-in_err-name : goal.returns-in_err-name
+returns-in_err-name c =
+    let p = err_from_is_err_and c.from_residual.result c.from_residual.ensures.1 in
+    rw (p.1, p.2) (stops_missing c.expect_name.new.self _ c.expect_name.ensures.moves (switch_begun c.requires.ready c.requires.begins c.skip.ensures.took) c.in_err-name.ensures.took)
 
-pub returns-in-err-expect-mark : goal.returns-in-err-expect-mark
-returns-in-err-expect-mark c =
-    let p = err_from_is_err_and c.from-residual-in-err-expect-mark.result c.from-residual-in-err-expect-mark.ensures.1 in
-    rw (p.1, p.2) (stops_missing c.expect-mark.new.self _ c.expect-mark.ensures.moves
-    (switch_named c.requires.ready c.requires.begins c.skip.ensures.took c.in-ok-name.ensures.took) c.in-err-expect-mark.ensures.took)
+pub returns-in_err-expect_mark : goal.returns-in_err-expect_mark
+returns-in_err-expect_mark c =
+    let p = err_from_is_err_and c.from_residual-in_err-expect_mark.result c.from_residual-in_err-expect_mark.ensures.1 in
+    rw (p.1, p.2) (stops_missing c.expect_mark.new.self _ c.expect_mark.ensures.moves
+    (switch_named c.requires.ready c.requires.begins c.skip.ensures.took c.in_ok-name.ensures.took) c.in_err-expect_mark.ensures.took)
 
-pub returns-in-err-labels : goal.returns-in-err-labels
-returns-in-err-labels c =
-    let p = err_from_is_err_and c.from-residual-in-err-labels.result c.from-residual-in-err-labels.ensures.1 in
-    let g = switch_becomes {L = c.args.levels} c.requires.ready c.requires.begins c.skip.ensures.took c.in-ok-name.ensures.took c.in-ok-expect-mark.ensures.took in
+pub returns-in_err-labels : goal.returns-in_err-labels
+returns-in_err-labels c =
+    let p = err_from_is_err_and c.from_residual-in_err-labels.result c.from_residual-in_err-labels.ensures.1 in
+    let g = switch_becomes {L = c.args.levels} c.requires.ready c.requires.begins c.skip.ensures.took c.in_ok-name.ensures.took c.in_ok-expect_mark.ensures.took in
     record {
-      moves = moves_trans c.args.self.now c.expect-mark.new.self c.bracketed-names.new.self g.moves c.bracketed-names.ensures.moves;
-      reads = rw (p.1, p.2) (fails_here _ g (λ limit d k h. c.in-err-labels.ensures.reads _ limit d k h));
+      moves = moves_trans c.args.self.now c.expect_mark.new.self c.bracketed_names.new.self g.moves c.bracketed_names.ensures.moves;
+      reads = rw (p.1, p.2) (fails_here _ g (λ limit d k h. c.in_err-labels.ensures.reads _ limit d k h));
     }
 
 pub returns : goal.returns
 returns c =
-    switch_read c.requires.ready c.requires.begins c.skip.ensures.took c.in-ok-name.ensures.took c.in-ok-expect-mark.ensures.took
-    c.bracketed-names.new.self c.make.new.self c.in-ok-labels.labels c.make.result (c.in-ok-labels.ensures.reads _) c.make.ensures
+    switch_read c.requires.ready c.requires.begins c.skip.ensures.took c.in_ok-name.ensures.took c.in_ok-expect_mark.ensures.took
+    c.bracketed_names.new.self c.make.new.self c.in_ok-labels.labels c.make.result (c.in_ok-labels.ensures.reads _) c.make.ensures
