@@ -28,7 +28,7 @@ invariant_of-place c =
     let good = sym c.are_lent_sizes_ok.ensures ∙ c.if-not-are_lent_sizes_ok.false in
     let whole = check_cut c.args.sizes c.args.operations.now c.args.operands.now c.split_at.ensures.front c.split_at-2.ensures.front good in
     let same = cut_code c.args.sizes c.args.operations.now c.args.operands.now c.split_at.ensures.front c.split_at-2.ensures.front in
-    (ap (λ code. passed (check code)) same ∙ ap passed (sym (c.in_ok-check_operations.ensures ∙ whole)), tt)
+    record { passes = ap (λ code. passed (check code)) same ∙ ap passed (sym (c.in_ok-check_operations.ensures ∙ whole)) }
 
 pub returns : goal.returns
 returns c =

@@ -6,4 +6,4 @@ use Rattle.code.proofs.checked.Checked.lone_halt.Goals as goal
 
 pub invariant_of-result : goal.invariant_of-result
 unfolding check operation operation_at
-invariant_of-result c = (refl, tt)
+invariant_of-result c = record { passes = refl }
