@@ -8,6 +8,6 @@ pub load-requires : goal.load-requires
 load-requires g c =
     let code = code_in c.args.code.now in
     let few = (well_formed code c.args.code.now.passes).few_named in
-    let all = eqb-true (length c.args.cells.now) code.sizes.cells (sym c.has-all-cells.ensures.figures ∙ c.if-not-has-all-cells.false) in
-    let named = ltb-true c.args.cell code.sizes.named (sym c.is-named.ensures ∙ c.if-not-is-named.false) in
+    let all = eqb-true (length c.args.cells.now) code.sizes.cells (sym c.has_all_cells.ensures.figures ∙ c.if-not-has_all_cells.false) in
+    let named = ltb-true c.args.cell code.sizes.named (sym c.is_named.ensures ∙ c.if-not-is_named.false) in
     omega arith

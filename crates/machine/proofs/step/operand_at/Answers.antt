@@ -3,8 +3,8 @@ use Rattle.code.specs.CheckedCode.{code_in}
 use Rattle.machine.proofs.Facts.{well_formed, operands_as_long}
 use Rattle.machine.proofs.step.operand_at.Goals as goal
 
-pub offset-bounds-operands-place : goal.offset-bounds-operands-place
-offset-bounds-operands-place c =
+pub offset_bounds-operands-place : goal.offset_bounds-operands-place
+offset_bounds-operands-place c =
     let code = code_in c.args.code.now in
     let w = well_formed code c.args.code.now.passes in
     let long = w.operations-long in

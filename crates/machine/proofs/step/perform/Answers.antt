@@ -20,64 +20,64 @@ calculate-requires g c =
     let w = well_formed code c.args.code.now.passes in
     let i = c.args.frame.now.place in
     let d = c.args.frame.now.depth in
-    let x = c.operand-at-operand.result in
+    let x = c.operand_at-operand.result in
     let is = c.in-Calculate.ensures in
-    let h = facts_at code w i c.args.operation (Calculate c.in-Calculate.calculation) x c.requires.at is c.operand-at-operand.ensures in
+    let h = facts_at code w i c.args.operation (Calculate c.in-Calculate.calculation) x c.requires.at is c.operand_at-operand.ensures in
     let r = room code w c.requires.fits h.0 in
     record { low = r.low; high = omega arith; tall = omega arith; operand = h.1 }
 
-pub returns-in-err-frame : goal.returns-in-err-frame
-returns-in-err-frame g c =
+pub returns-in_err-frame : goal.returns-in_err-frame
+returns-in_err-frame g c =
     let code = code_in c.args.code.now in
     let w = well_formed code c.args.code.now.passes in
     let i = c.args.frame.now.place in
     let d = c.args.frame.now.depth in
-    let x = c.operand-at-operand.result in
+    let x = c.operand_at-operand.result in
     let is = c.in-Calculate.ensures in
-    let h = facts_at code w i c.args.operation (Calculate c.in-Calculate.calculation) x c.requires.at is c.operand-at-operand.ensures in
+    let h = facts_at code w i c.args.operation (Calculate c.in-Calculate.calculation) x c.requires.at is c.operand_at-operand.ensures in
     let kind = g.Figure.Figures.kind in
     let means = g.Figure.Figures.means in
     let stack = c.args.stack.now in
     let roll = g.R.Roll.holds c.args.roll.now in
     let s = state means c.args.frame.now c.args.cells.now stack c.args.book.now roll in
-    let q = err_from_is_err_and c.from-residual.result c.from-residual.ensures.1 in
-    let fault = fault_of c.in-err-frame.field-0.0 in
-    rw (q.1, q.2) (record { done = calculate_fails kind code s c.args.operation x c.requires.at c.operand-at-operand.ensures c.in-Calculate.calculation is fault c.in-err-frame.ensures.work; next = tt })
+    let q = err_from_is_err_and c.from_residual.result c.from_residual.ensures.1 in
+    let fault = fault_of c.in_err-frame.field-0.0 in
+    rw (q.1, q.2) (record { done = calculate_fails kind code s c.args.operation x c.requires.at c.operand_at-operand.ensures c.in-Calculate.calculation is fault c.in_err-frame.ensures.work; next = tt })
 
-pub returns-in-ok-frame : goal.returns-in-ok-frame
-returns-in-ok-frame g c =
+pub returns-in_ok-frame : goal.returns-in_ok-frame
+returns-in_ok-frame g c =
     let code = code_in c.args.code.now in
     let w = well_formed code c.args.code.now.passes in
     let i = c.args.frame.now.place in
     let d = c.args.frame.now.depth in
-    let x = c.operand-at-operand.result in
+    let x = c.operand_at-operand.result in
     let is = c.in-Calculate.ensures in
-    let h = facts_at code w i c.args.operation (Calculate c.in-Calculate.calculation) x c.requires.at is c.operand-at-operand.ensures in
+    let h = facts_at code w i c.args.operation (Calculate c.in-Calculate.calculation) x c.requires.at is c.operand_at-operand.ensures in
     let kind = g.Figure.Figures.kind in
     let means = g.Figure.Figures.means in
     let stack = c.args.stack.now in
     let roll = g.R.Roll.holds c.args.roll.now in
     let s = state means c.args.frame.now c.args.cells.now stack c.args.book.now roll in
     let r = room code w c.requires.fits h.0 in
-    let e = c.in-ok-frame.ensures in
+    let e = c.in_ok-frame.ensures in
     let after = c.calculate.new.stack in
-    let n = c.in-ok-frame.field-0 in
+    let n = c.in_ok-frame.field-0 in
     let same = c.calculate.auto.stack in
     let long = operands_length means after n (omega arith) in
     record {
-      done = calculate_goes kind code s c.args.operation x c.requires.at c.operand-at-operand.ensures c.in-Calculate.calculation is (operands means n after) e.work (omega arith);
+      done = calculate_goes kind code s c.args.operation x c.requires.at c.operand_at-operand.ensures c.in-Calculate.calculation is (operands means n after) e.work (omega arith);
       next = follows_on code w c.requires.fits h.0 n e.depth;
     }
 
-pub transfer-figure-requires : goal.transfer-figure-requires
-transfer-figure-requires g c =
+pub transfer_figure-requires : goal.transfer_figure-requires
+transfer_figure-requires g c =
     let code = code_in c.args.code.now in
     let w = well_formed code c.args.code.now.passes in
     let i = c.args.frame.now.place in
     let d = c.args.frame.now.depth in
-    let x = c.operand-at-operand.result in
+    let x = c.operand_at-operand.result in
     let is = c.in-Transfer.ensures in
-    let h = facts_at code w i c.args.operation (Transfer c.in-Transfer.transfer) x c.requires.at is c.operand-at-operand.ensures in
+    let h = facts_at code w i c.args.operation (Transfer c.in-Transfer.transfer) x c.requires.at is c.operand_at-operand.ensures in
     let r = room code w c.requires.fits h.0 in
     record {
       low = r.low;
@@ -86,52 +86,52 @@ transfer-figure-requires g c =
       operand = subst (λ (m : ℕ). TransferOperand c.in-Transfer.transfer x m) (sym c.requires.fits.wide) h.1;
     }
 
-pub returns-in-err-frame-2 : goal.returns-in-err-frame-2
-returns-in-err-frame-2 g c =
+pub returns-in_err-frame-2 : goal.returns-in_err-frame-2
+returns-in_err-frame-2 g c =
     let code = code_in c.args.code.now in
     let w = well_formed code c.args.code.now.passes in
     let i = c.args.frame.now.place in
     let d = c.args.frame.now.depth in
-    let x = c.operand-at-operand.result in
+    let x = c.operand_at-operand.result in
     let is = c.in-Transfer.ensures in
-    let h = facts_at code w i c.args.operation (Transfer c.in-Transfer.transfer) x c.requires.at is c.operand-at-operand.ensures in
+    let h = facts_at code w i c.args.operation (Transfer c.in-Transfer.transfer) x c.requires.at is c.operand_at-operand.ensures in
     let kind = g.Figure.Figures.kind in
     let means = g.Figure.Figures.means in
     let stack = c.args.stack.now in
     let roll = g.R.Roll.holds c.args.roll.now in
     let s = state means c.args.frame.now c.args.cells.now stack c.args.book.now roll in
-    let q = err_from_is_err_and c.from-residual-in-err-frame-2.result c.from-residual-in-err-frame-2.ensures.1 in
-    let e = c.in-err-frame-2.ensures in
-    let fault = fault_of c.in-err-frame-2.field-0.0 in
+    let q = err_from_is_err_and c.from_residual-in_err-frame-2.result c.from_residual-in_err-frame-2.ensures.1 in
+    let e = c.in_err-frame-2.ensures in
+    let fault = fault_of c.in_err-frame-2.field-0.0 in
     rw (q.1, q.2) (record {
       done =
-          transfer_fails kind code s c.args.operation x c.requires.at c.operand-at-operand.ensures c.in-Transfer.transfer is fault e.work
+          transfer_fails kind code s c.args.operation x c.requires.at c.operand_at-operand.ensures c.in-Transfer.transfer is fault e.work
           ∙ ap (λ cells. faults fault (memory means c.args.frame.now.posted cells c.args.book.now roll)) (sym e.depth);
       next = tt;
     })
 
-pub returns-in-ok-frame-2 : goal.returns-in-ok-frame-2
-returns-in-ok-frame-2 g c =
+pub returns-in_ok-frame-2 : goal.returns-in_ok-frame-2
+returns-in_ok-frame-2 g c =
     let code = code_in c.args.code.now in
     let w = well_formed code c.args.code.now.passes in
     let i = c.args.frame.now.place in
     let d = c.args.frame.now.depth in
-    let x = c.operand-at-operand.result in
+    let x = c.operand_at-operand.result in
     let is = c.in-Transfer.ensures in
-    let h = facts_at code w i c.args.operation (Transfer c.in-Transfer.transfer) x c.requires.at is c.operand-at-operand.ensures in
+    let h = facts_at code w i c.args.operation (Transfer c.in-Transfer.transfer) x c.requires.at is c.operand_at-operand.ensures in
     let kind = g.Figure.Figures.kind in
     let means = g.Figure.Figures.means in
     let stack = c.args.stack.now in
     let roll = g.R.Roll.holds c.args.roll.now in
     let s = state means c.args.frame.now c.args.cells.now stack c.args.book.now roll in
     let r = room code w c.requires.fits h.0 in
-    let e = c.in-ok-frame-2.ensures in
-    let after = c.transfer-figure.new.stack in
-    let n = c.in-ok-frame-2.field-0 in
-    let same = c.transfer-figure.auto.stack in
+    let e = c.in_ok-frame-2.ensures in
+    let after = c.transfer_figure.new.stack in
+    let n = c.in_ok-frame-2.field-0 in
+    let same = c.transfer_figure.auto.stack in
     let long = operands_length means after n (omega arith) in
     record {
-      done = transfer_goes kind code s c.args.operation x c.requires.at c.operand-at-operand.ensures c.in-Transfer.transfer is (operands means n after) (map means c.transfer-figure.new.cells) e.work (omega arith);
+      done = transfer_goes kind code s c.args.operation x c.requires.at c.operand_at-operand.ensures c.in-Transfer.transfer is (operands means n after) (map means c.transfer_figure.new.cells) e.work (omega arith);
       next = follows_on code w c.requires.fits h.0 n e.depth;
     }
 
@@ -141,9 +141,9 @@ go-requires g c =
     let w = well_formed code c.args.code.now.passes in
     let i = c.args.frame.now.place in
     let d = c.args.frame.now.depth in
-    let x = c.operand-at-operand.result in
+    let x = c.operand_at-operand.result in
     let is = c.in-Go.ensures in
-    let h = facts_at code w i c.args.operation (Go c.in-Go.branch) x c.requires.at is c.operand-at-operand.ensures in
+    let h = facts_at code w i c.args.operation (Go c.in-Go.branch) x c.requires.at is c.operand_at-operand.ensures in
     let found = (sound_at code w i c.args.operation c.requires.at).found in
     let fits = c.requires.fits in
     let long = w.operations-long in
@@ -161,9 +161,9 @@ returns-in-Go g c =
     let w = well_formed code c.args.code.now.passes in
     let i = c.args.frame.now.place in
     let d = c.args.frame.now.depth in
-    let x = c.operand-at-operand.result in
+    let x = c.operand_at-operand.result in
     let is = c.in-Go.ensures in
-    let h = facts_at code w i c.args.operation (Go c.in-Go.branch) x c.requires.at is c.operand-at-operand.ensures in
+    let h = facts_at code w i c.args.operation (Go c.in-Go.branch) x c.requires.at is c.operand_at-operand.ensures in
     let kind = g.Figure.Figures.kind in
     let means = g.Figure.Figures.means in
     let stack = c.args.stack.now in
@@ -178,165 +178,165 @@ returns-in-Go g c =
     let long = operands_length means stack f.depth (omega arith) in
     record {
       done =
-          go_goes kind code s c.args.operation x c.requires.at c.operand-at-operand.ensures c.in-Go.branch is f.place (operands means f.depth stack) led (omega arith)
+          go_goes kind code s c.args.operation x c.requires.at c.operand_at-operand.ensures c.in-Go.branch is f.place (operands means f.depth stack) led (omega arith)
           ∙ ap (λ n. goes (record { place = f.place; stack = operands means f.depth stack; memory = memory means n c.args.cells.now c.args.book.now roll })) (sym e.posted);
       next = follows_branch kind code w fits c.in-Go.branch x h (operands means d stack) (operands means f.depth stack) f.place f.depth led e.depth;
     }
 
-pub overflow-sub-frame : goal.overflow-sub-frame
-overflow-sub-frame g c =
+pub overflow_sub-frame : goal.overflow_sub-frame
+overflow_sub-frame g c =
     let code = code_in c.args.code.now in
     let w = well_formed code c.args.code.now.passes in
     let i = c.args.frame.now.place in
     let d = c.args.frame.now.depth in
-    let x = c.operand-at-operand.result in
+    let x = c.operand_at-operand.result in
     let is = c.in-Take.ensures in
-    let h = facts_at code w i c.args.operation (Take c.in-Take.is-rounded) x c.requires.at is c.operand-at-operand.ensures in
+    let h = facts_at code w i c.args.operation (Take c.in-Take.is_rounded) x c.requires.at is c.operand_at-operand.ensures in
     let r = room code w c.requires.fits h.0 in
     omega arith
 
-pub figure-over-subscript-requires : goal.figure-over-subscript-requires
-figure-over-subscript-requires g c =
+pub figure_over-subscript-requires : goal.figure_over-subscript-requires
+figure_over-subscript-requires g c =
     let code = code_in c.args.code.now in
     let w = well_formed code c.args.code.now.passes in
     let i = c.args.frame.now.place in
     let d = c.args.frame.now.depth in
-    let x = c.operand-at-operand.result in
+    let x = c.operand_at-operand.result in
     let is = c.in-Take.ensures in
-    let h = facts_at code w i c.args.operation (Take c.in-Take.is-rounded) x c.requires.at is c.operand-at-operand.ensures in
+    let h = facts_at code w i c.args.operation (Take c.in-Take.is_rounded) x c.requires.at is c.operand_at-operand.ensures in
     let r = room code w c.requires.fits h.0 in
     omega arith
 
-pub take-into-requires : goal.take-into-requires
-take-into-requires g c =
+pub take_into-requires : goal.take_into-requires
+take_into-requires g c =
     let code = code_in c.args.code.now in
     let w = well_formed code c.args.code.now.passes in
     let i = c.args.frame.now.place in
     let d = c.args.frame.now.depth in
-    let x = c.operand-at-operand.result in
+    let x = c.operand_at-operand.result in
     let is = c.in-Take.ensures in
-    let h = facts_at code w i c.args.operation (Take c.in-Take.is-rounded) x c.requires.at is c.operand-at-operand.ensures in
+    let h = facts_at code w i c.args.operation (Take c.in-Take.is_rounded) x c.requires.at is c.operand_at-operand.ensures in
     subst (λ (m : ℕ). NamesCells m (unpacked x)) (sym c.requires.fits.wide) h.1
 
-pub returns-in-err-take-into : goal.returns-in-err-take-into
-returns-in-err-take-into g c =
+pub returns-in_err-take_into : goal.returns-in_err-take_into
+returns-in_err-take_into g c =
     let code = code_in c.args.code.now in
     let w = well_formed code c.args.code.now.passes in
     let i = c.args.frame.now.place in
     let d = c.args.frame.now.depth in
-    let x = c.operand-at-operand.result in
+    let x = c.operand_at-operand.result in
     let is = c.in-Take.ensures in
-    let h = facts_at code w i c.args.operation (Take c.in-Take.is-rounded) x c.requires.at is c.operand-at-operand.ensures in
+    let h = facts_at code w i c.args.operation (Take c.in-Take.is_rounded) x c.requires.at is c.operand_at-operand.ensures in
     let kind = g.Figure.Figures.kind in
     let means = g.Figure.Figures.means in
     let stack = c.args.stack.now in
     let roll = g.R.Roll.holds c.args.roll.now in
     let s = state means c.args.frame.now c.args.cells.now stack c.args.book.now roll in
     let r = room code w c.requires.fits h.0 in
-    let top = top_at means stack d (omega arith) c.figure-over-subscript.ensures in
-    let q = err_from_is_err_and c.from-residual-in-err-take-into.result c.from-residual-in-err-take-into.ensures.1 in
-    let e = c.in-err-take-into.ensures in
-    let fault = fault_of c.in-err-take-into.field-0.0 in
+    let top = top_at means stack d (omega arith) c.figure_over-subscript.ensures in
+    let q = err_from_is_err_and c.from_residual-in_err-take_into.result c.from_residual-in_err-take_into.ensures.1 in
+    let e = c.in_err-take_into.ensures in
+    let fault = fault_of c.in_err-take_into.field-0.0 in
     rw (q.1, q.2) (record {
       done =
-          take_fails kind code s c.args.operation x c.requires.at c.operand-at-operand.ensures c.in-Take.is-rounded is (means c.figure-over-subscript.result) (operands means (d - 1) stack) top fault e.work
+          take_fails kind code s c.args.operation x c.requires.at c.operand_at-operand.ensures c.in-Take.is_rounded is (means c.figure_over-subscript.result) (operands means (d - 1) stack) top fault e.work
           ∙ ap₂ (λ cells roll. faults fault (memory means c.args.frame.now.posted cells c.args.book.now roll)) (sym e.kept.0) (sym e.kept.1);
       next = tt;
     })
 
-pub returns-in-ok-take-into : goal.returns-in-ok-take-into
-returns-in-ok-take-into g c =
+pub returns-in_ok-take_into : goal.returns-in_ok-take_into
+returns-in_ok-take_into g c =
     let code = code_in c.args.code.now in
     let w = well_formed code c.args.code.now.passes in
     let i = c.args.frame.now.place in
     let d = c.args.frame.now.depth in
-    let x = c.operand-at-operand.result in
+    let x = c.operand_at-operand.result in
     let is = c.in-Take.ensures in
-    let h = facts_at code w i c.args.operation (Take c.in-Take.is-rounded) x c.requires.at is c.operand-at-operand.ensures in
+    let h = facts_at code w i c.args.operation (Take c.in-Take.is_rounded) x c.requires.at is c.operand_at-operand.ensures in
     let kind = g.Figure.Figures.kind in
     let means = g.Figure.Figures.means in
     let stack = c.args.stack.now in
     let roll = g.R.Roll.holds c.args.roll.now in
     let s = state means c.args.frame.now c.args.cells.now stack c.args.book.now roll in
     let r = room code w c.requires.fits h.0 in
-    let top = top_at means stack d (omega arith) c.figure-over-subscript.ensures in
-    let e = c.in-ok-take-into.ensures in
+    let top = top_at means stack d (omega arith) c.figure_over-subscript.ensures in
+    let e = c.in_ok-take_into.ensures in
     let long = operands_length means stack (d - 1) (omega arith) in
     record {
-      done = take_goes kind code s c.args.operation x c.requires.at c.operand-at-operand.ensures c.in-Take.is-rounded is (means c.figure-over-subscript.result) (operands means (d - 1) stack) top (map means c.take-into.new.cells) (valued means (g.R.Roll.holds c.take-into.new.roll)) e.work (omega arith);
+      done = take_goes kind code s c.args.operation x c.requires.at c.operand_at-operand.ensures c.in-Take.is_rounded is (means c.figure_over-subscript.result) (operands means (d - 1) stack) top (map means c.take_into.new.cells) (valued means (g.R.Roll.holds c.take_into.new.roll)) e.work (omega arith);
       next = follows_on code w c.requires.fits h.0 (d - 1) (omega arith);
     }
 
-pub overflow-sub-frame-in-Post : goal.overflow-sub-frame-in-Post
-overflow-sub-frame-in-Post g c =
+pub overflow_sub-frame-in-Post : goal.overflow_sub-frame-in-Post
+overflow_sub-frame-in-Post g c =
     let code = code_in c.args.code.now in
     let w = well_formed code c.args.code.now.passes in
     let i = c.args.frame.now.place in
     let d = c.args.frame.now.depth in
-    let x = c.operand-at-operand.result in
+    let x = c.operand_at-operand.result in
     let is = c.in-Post.ensures in
-    let h = facts_at code w i c.args.operation Post x c.requires.at is c.operand-at-operand.ensures in
+    let h = facts_at code w i c.args.operation Post x c.requires.at is c.operand_at-operand.ensures in
     let r = room code w c.requires.fits h in
     omega arith
 
-pub figure-over-requires : goal.figure-over-requires
-figure-over-requires g c =
+pub figure_over-requires : goal.figure_over-requires
+figure_over-requires g c =
     let code = code_in c.args.code.now in
     let w = well_formed code c.args.code.now.passes in
     let i = c.args.frame.now.place in
     let d = c.args.frame.now.depth in
-    let x = c.operand-at-operand.result in
+    let x = c.operand_at-operand.result in
     let is = c.in-Post.ensures in
-    let h = facts_at code w i c.args.operation Post x c.requires.at is c.operand-at-operand.ensures in
+    let h = facts_at code w i c.args.operation Post x c.requires.at is c.operand_at-operand.ensures in
     let r = room code w c.requires.fits h in
     omega arith
 
-pub returns-in-err-post : goal.returns-in-err-post
-returns-in-err-post g c =
+pub returns-in_err-post : goal.returns-in_err-post
+returns-in_err-post g c =
     let code = code_in c.args.code.now in
     let w = well_formed code c.args.code.now.passes in
     let i = c.args.frame.now.place in
     let d = c.args.frame.now.depth in
-    let x = c.operand-at-operand.result in
+    let x = c.operand_at-operand.result in
     let is = c.in-Post.ensures in
-    let h = facts_at code w i c.args.operation Post x c.requires.at is c.operand-at-operand.ensures in
+    let h = facts_at code w i c.args.operation Post x c.requires.at is c.operand_at-operand.ensures in
     let kind = g.Figure.Figures.kind in
     let means = g.Figure.Figures.means in
     let stack = c.args.stack.now in
     let roll = g.R.Roll.holds c.args.roll.now in
     let s = state means c.args.frame.now c.args.cells.now stack c.args.book.now roll in
     let r = room code w c.requires.fits h in
-    let top = top_at means stack d (omega arith) c.figure-over.ensures in
-    let q = err_from_is_err_and c.from-residual-in-err-post.result c.from-residual-in-err-post.ensures.1 in
-    let e = c.in-err-post.ensures in
-    let fault = fault_of c.in-err-post.field-0.0 in
+    let top = top_at means stack d (omega arith) c.figure_over.ensures in
+    let q = err_from_is_err_and c.from_residual-in_err-post.result c.from_residual-in_err-post.ensures.1 in
+    let e = c.in_err-post.ensures in
+    let fault = fault_of c.in_err-post.field-0.0 in
     rw (q.1, q.2) (record {
       done =
-          post_fails kind code s c.args.operation x c.requires.at c.operand-at-operand.ensures is (means c.figure-over.result) (operands means (d - 1) stack) top fault e.work
+          post_fails kind code s c.args.operation x c.requires.at c.operand_at-operand.ensures is (means c.figure_over.result) (operands means (d - 1) stack) top fault e.work
           ∙ ap (λ book. faults fault (memory means c.args.frame.now.posted c.args.cells.now book roll)) (sym e.kept);
       next = tt;
     })
 
-pub returns-in-ok-post : goal.returns-in-ok-post
-returns-in-ok-post g c =
+pub returns-in_ok-post : goal.returns-in_ok-post
+returns-in_ok-post g c =
     let code = code_in c.args.code.now in
     let w = well_formed code c.args.code.now.passes in
     let i = c.args.frame.now.place in
     let d = c.args.frame.now.depth in
-    let x = c.operand-at-operand.result in
+    let x = c.operand_at-operand.result in
     let is = c.in-Post.ensures in
-    let h = facts_at code w i c.args.operation Post x c.requires.at is c.operand-at-operand.ensures in
+    let h = facts_at code w i c.args.operation Post x c.requires.at is c.operand_at-operand.ensures in
     let kind = g.Figure.Figures.kind in
     let means = g.Figure.Figures.means in
     let stack = c.args.stack.now in
     let roll = g.R.Roll.holds c.args.roll.now in
     let s = state means c.args.frame.now c.args.cells.now stack c.args.book.now roll in
     let r = room code w c.requires.fits h in
-    let top = top_at means stack d (omega arith) c.figure-over.ensures in
-    let e = c.in-ok-post.ensures in
+    let top = top_at means stack d (omega arith) c.figure_over.ensures in
+    let e = c.in_ok-post.ensures in
     let long = operands_length means stack (d - 1) (omega arith) in
     record {
-      done = post_goes kind code s c.args.operation x c.requires.at c.operand-at-operand.ensures is (means c.figure-over.result) (operands means (d - 1) stack) top (map means c.post.new.book) e.work (omega arith);
+      done = post_goes kind code s c.args.operation x c.requires.at c.operand_at-operand.ensures is (means c.figure_over.result) (operands means (d - 1) stack) top (map means c.post.new.book) e.work (omega arith);
       next = follows_on code w c.requires.fits h (d - 1) (omega arith);
     }
 
@@ -346,9 +346,9 @@ returns-in-Pass g c =
     let w = well_formed code c.args.code.now.passes in
     let i = c.args.frame.now.place in
     let d = c.args.frame.now.depth in
-    let x = c.operand-at-operand.result in
+    let x = c.operand_at-operand.result in
     let is = c.in-Pass.ensures in
-    let h = facts_at code w i c.args.operation Pass x c.requires.at is c.operand-at-operand.ensures in
+    let h = facts_at code w i c.args.operation Pass x c.requires.at is c.operand_at-operand.ensures in
     let kind = g.Figure.Figures.kind in
     let means = g.Figure.Figures.means in
     let stack = c.args.stack.now in
@@ -357,6 +357,6 @@ returns-in-Pass g c =
     let r = room code w c.requires.fits h in
     let long = operands_length means stack d (omega arith) in
     record {
-      done = pass_goes kind code s c.args.operation x c.requires.at c.operand-at-operand.ensures is (omega arith);
+      done = pass_goes kind code s c.args.operation x c.requires.at c.operand_at-operand.ensures is (omega arith);
       next = follows_on code w c.requires.fits h d (omega arith);
     }

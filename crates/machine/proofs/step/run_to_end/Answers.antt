@@ -8,13 +8,13 @@ use Rattle.machine.specs.Views.{state}
 use Rattle.machine.proofs.Stepping.{ended_stays, fault_ends, fewer_left, fits_as, goes_on}
 use Rattle.machine.proofs.step.run_to_end.Goals as goal
 
-pub returns-then-ends-step : goal.returns-then-ends-step
-returns-then-ends-step g c =
+pub returns-then-ends_step : goal.returns-then-ends_step
+returns-then-ends_step g c =
     let kind = g.Figure.Figures.kind in
     let code = code_in c.args.code.now in
     let l = c.operations in
     let s = state g.Figure.Figures.means l.frame l.cells l.stack l.book (g.R.Roll.holds l.roll) in
-    let here : ends_step_at (operation_at code.operations l.frame.place) ≡ true = ap ends_step_at c.operation-at-operation.ensures ∙ sym c.ends-step.ensures ∙ c.if-ends-step.true in
+    let here : ends_step_at (operation_at code.operations l.frame.place) ≡ true = ap ends_step_at c.operation_at-operation.ensures ∙ sym c.ends_step.ensures ∙ c.if-ends_step.true in
     record { done = l.invariant.1 (goes s) (ended_stays kind code s here); next = record { fits = l.invariant.0; ended = here } }
 
 pub operations-preserved : goal.operations-preserved
@@ -26,18 +26,18 @@ operations-preserved g c =
     let n = c.perform.new in
     let s = state means l.frame l.cells l.stack l.book (g.R.Roll.holds l.roll) in
     let t = state means n.frame n.cells n.stack n.book (g.R.Roll.holds n.roll) in
-    let here : ends_step_at (operation_at code.operations l.frame.place) ≡ false = ap ends_step_at c.operation-at-operation.ensures ∙ sym c.ends-step.ensures ∙ c.if-ends-step.false in
-    let e = c.in-ok-perform.ensures in
+    let here : ends_step_at (operation_at code.operations l.frame.place) ≡ false = ap ends_step_at c.operation_at-operation.ensures ∙ sym c.ends_step.ensures ∙ c.if-ends_step.false in
+    let e = c.in_ok-perform.ensures in
     let falls = fewer_left code l.frame.place n.frame.place _ _ _ l.invariant.0.inside here e.next in
     (fits_as e.next.fits l.auto.cells l.auto.stack, λ r h. l.invariant.1 r (goes_on kind code s t r here e.done falls h))
 
-pub returns-in-err-perform : goal.returns-in-err-perform
-returns-in-err-perform g c =
+pub returns-in_err-perform : goal.returns-in_err-perform
+returns-in_err-perform g c =
     let kind = g.Figure.Figures.kind in
     let code = code_in c.args.code.now in
     let l = c.operations in
     let s = state g.Figure.Figures.means l.frame l.cells l.stack l.book (g.R.Roll.holds l.roll) in
-    let here : ends_step_at (operation_at code.operations l.frame.place) ≡ false = ap ends_step_at c.operation-at-operation.ensures ∙ sym c.ends-step.ensures ∙ c.if-ends-step.false in
-    let q = err_from_is_err_and c.from-residual.result c.from-residual.ensures.1 in
-    let e = c.in-err-perform.ensures in
+    let here : ends_step_at (operation_at code.operations l.frame.place) ≡ false = ap ends_step_at c.operation_at-operation.ensures ∙ sym c.ends_step.ensures ∙ c.if-ends_step.false in
+    let q = err_from_is_err_and c.from_residual.result c.from_residual.ensures.1 in
+    let e = c.in_err-perform.ensures in
     rw (q.1, q.2) (record { done = l.invariant.1 _ (fault_ends kind code s _ _ here e.done); next = tt })

@@ -9,12 +9,12 @@ returns g c =
     let means = g.Figure.Figures.means in
     let cells = map means c.args.cells.now in
     let before = g.R.Roll.holds c.args.roll.now in
-    let figure = c.in-ok-figure.figure in
-    let over = handed_value means before figure (c.in-ok-figure.ensures ∙ ap handed c.take.ensures.answer) in
+    let figure = c.in_ok-figure.figure in
+    let over = handed_value means before figure (c.in_ok-figure.ensures ∙ ap handed c.take.ensures.answer) in
     let left = rest_value means before (g.R.Roll.holds c.take.new.self) c.take.ensures.left in
     record {
       work =
           ap (λ roll. gives (map means c.put.new.figures, roll)) left
-          ∙ sym (taken_goes g.Figure.Figures.kind c.args.is-rounded c.args.operand (means c.args.subscript) cells (valued means before) c.in-ok-cell.cell (means figure) (means c.rounded-if.result) (map means c.put.new.figures) c.in-ok-cell.ensures.cell over c.rounded-if.ensures c.put.ensures.stored);
+          ∙ sym (taken_goes g.Figure.Figures.kind c.args.is_rounded c.args.operand (means c.args.subscript) cells (valued means before) c.in_ok-cell.cell (means figure) (means c.rounded_if.result) (map means c.put.new.figures) c.in_ok-cell.ensures.cell over c.rounded_if.ensures c.put.ensures.stored);
       kept = tt;
     }

@@ -4,12 +4,12 @@ use Rattle.code.specs.CheckedCode.{code_in}
 use Rattle.machine.proofs.Facts.{well_formed}
 use Rattle.machine.proofs.ready.Ready.enter.Goals as goal
 
-pub offset-bounds-cells-cell : goal.offset-bounds-cells-cell
-offset-bounds-cells-cell g c =
+pub offset_bounds-cells-cell : goal.offset_bounds-cells-cell
+offset_bounds-cells-cell g c =
     let code = code_in c.args.self.now.code in
     let few = (well_formed code c.args.self.now.code.passes).few_named in
-    let all = eqb-true (length c.args.cells.now) code.sizes.cells (sym c.has-all-cells.ensures.figures ∙ c.if-not-has-all-cells.false) in
-    let named = ltb-true c.args.cell code.sizes.named (sym c.is-named.ensures ∙ c.if-not-is-named.false) in
+    let all = eqb-true (length c.args.cells.now) code.sizes.cells (sym c.has_all_cells.ensures.figures ∙ c.if-not-has_all_cells.false) in
+    let named = ltb-true c.args.cell code.sizes.named (sym c.is_named.ensures ∙ c.if-not-is_named.false) in
     let inside : c.args.cell < length c.args.cells.now = omega arith in
     search rules
 
@@ -17,6 +17,6 @@ pub bounds-cells-cell : goal.bounds-cells-cell
 bounds-cells-cell g c =
     let code = code_in c.args.self.now.code in
     let few = (well_formed code c.args.self.now.code.passes).few_named in
-    let all = eqb-true (length c.args.cells.now) code.sizes.cells (sym c.has-all-cells.ensures.figures ∙ c.if-not-has-all-cells.false) in
-    let named = ltb-true c.args.cell code.sizes.named (sym c.is-named.ensures ∙ c.if-not-is-named.false) in
+    let all = eqb-true (length c.args.cells.now) code.sizes.cells (sym c.has_all_cells.ensures.figures ∙ c.if-not-has_all_cells.false) in
+    let named = ltb-true c.args.cell code.sizes.named (sym c.is_named.ensures ∙ c.if-not-is_named.false) in
     omega arith

@@ -4,7 +4,7 @@ use Rattle.machine.proofs.Facts.{well_formed}
 use Rattle.machine.proofs.Standing.{first_stands}
 use Rattle.machine.proofs.ready.Ready.start.Goals as goal
 
-pub invariant-of-result : goal.invariant-of-result
-invariant-of-result c =
+pub invariant_of-result : goal.invariant_of-result
+invariant_of-result c =
     let code = code_in c.args.self.code in
     (first_stands code (well_formed code c.args.self.code.passes), (omega arith, tt))
