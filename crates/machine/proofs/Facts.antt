@@ -1,22 +1,22 @@
 -- What checked code says of one operation, by the form of what it does, and where control goes from it.
-use Rattle.std.proofs.Common.{◌≡◌, ℕ, zero, suc, ◌+◌, ◌-◌, ◌^◌, ◌<◌, ◌≤◌, Bool, true, false, cond, ◌&&◌, ◌⊎◌, List, map, length, get_or, Some, None, Option, sym, refl, ap, ◌∙◌, subst, inl, inr, ⊎_elim, add-one, arith}
+use Rattle.std.proofs.Common.{◌≡◌, ℕ, suc, ◌+◌, ◌-◌, ◌<◌, ◌≤◌, true, List, map, length, get_or, Some, None, sym, refl, ap, ◌∙◌, subst, inl, inr, ⊎_elim, add-one, arith}
 use Rattle.std.proofs.lemmas.List.{get_or_past}
 use Rattle.std.proofs.lemmas.Bool.{cases_lt}
 use Rattle.code.specs.declared.operations.Operation.{Operation}
 use Rattle.code.specs.declared.operations.Operation.TheVariants as op
-use Rattle.code.specs.Operations.{operation, number, role, taken, left, all_operations}
+use Rattle.code.specs.Operations.{operation, number, taken, left, all_operations}
 use Rattle.code.specs.Check.{Verdict, passes, refused, passed, check, depth_after}
 use Rattle.code.specs.Codes.{Code, operation_at}
 use Rattle.code.specs.Descriptors.{unpacked}
-use Rattle.code.specs.WellFormed.{depth_at, depth_past, Lands, on_mark, on_later_here, on_later_halt, NamesCells, HasRows, SoundAt, WellFormed}
+use Rattle.code.specs.WellFormed.{depth_at, depth_past, Lands, on_mark, on_later_here, on_later_halt, NamesCells, SoundAt, WellFormed}
 use Rattle.code.proofs.Passing.{passes_to_well_formed}
-use Rattle.code.proofs.Places.{operation_at_inside, operation_at_past, operation_to_number}
+use Rattle.code.proofs.Places.{operation_at_inside, operation_at_past}
 use Rattle.machine.specs.declared.instruction.Instruction.{Instruction}
 use Rattle.machine.specs.declared.instruction.Instruction.TheVariants.{Halt, Pass, Calculate, Transfer, Go, Take, Post}
 use Rattle.machine.specs.declared.instruction.Branch.TheVariants.{Always, IfFalse, ByTable}
 use Rattle.machine.specs.Instructions.{instruction}
 use Rattle.machine.specs.Steps.{ends_step_at}
-use Rattle.machine.specs.Fits.{Fits, Follows, Ends, RowsWithin, stands_at, calculation_takes, CalculationOperand, transfer_takes, transfer_leaves, TransferOperand}
+use Rattle.machine.specs.Fits.{Fits, Follows, RowsWithin, calculation_takes, CalculationOperand, transfer_takes, transfer_leaves, TransferOperand}
 
 -- The code that a checked value holds is well formed.
 passed_to_passes : (v : Verdict) → passed v ≡ true → v ≡ passes

@@ -1,13 +1,13 @@
 -- The law of runs holds over every sequence of calls on checked code.
-use Rattle.std.proofs.Common.{◌≡◌, ℕ, zero, suc, ◌+◌, ◌-◌, ◌<◌, ◌≤◌, Bool, true, false, cond, ◌||◌, eqb, leb, ◌⊎◌, List, [], ◌∷◌, length, is_some, Some, None, Option, sym, refl, ap, ◌∙◌, subst, inl, inr, ⊎_elim, arith}
+use Rattle.std.proofs.Common.{◌≡◌, ℕ, zero, suc, ◌+◌, ◌-◌, ◌<◌, ◌≤◌, Bool, true, false, cond, eqb, leb, ◌⊎◌, List, [], ◌∷◌, length, is_some, Some, None, Option, sym, refl, ap, ◌∙◌, subst, inl, inr, ⊎_elim, arith}
 use Rattle.std.proofs.lemmas.Bool.{eqb-true, or_parts}
 use Rattle.figures.specs.Kinds.{Kind, Outcome, value, refused}
 use Rattle.code.specs.Codes.{Code}
 use Rattle.code.specs.WellFormed.{WellFormed}
 use Rattle.machine.specs.Fits.{stands_at}
-use Rattle.machine.specs.Histories.{History, started, advanced, asked, told, Sound, SoundHistories, Started, steps_in, total, tried}
-use Rattle.machine.specs.Machine.{Lack, Memory, ResultOf, goes, faults, misses}
-use Rattle.machine.specs.Runs.{Advanced, Run, advance_after, advance_answer, advance_refusal, at_halt, at_step, came_to, ended, run, stepped}
+use Rattle.machine.specs.Histories.{History, started, advanced, asked, told, SoundHistories, Started, steps_in, total, tried}
+use Rattle.machine.specs.Machine.{ResultOf, goes, faults, misses}
+use Rattle.machine.specs.Runs.{Advanced, Run, advance_after, advance_answer, advance_refusal, at_halt, at_step, ended, run, stepped}
 use Rattle.machine.specs.Steps.{step}
 use Rattle.machine.proofs.Advancing.{ended_runs, stepped_to}
 use Rattle.machine.proofs.Soundness.{Completes, step_completes}

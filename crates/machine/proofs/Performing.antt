@@ -1,8 +1,7 @@
 -- What an operation comes to, once what its work gives is known, and where control goes from a jump.
-use Rattle.std.proofs.Common.{◌≡◌, ℕ, zero, suc, ◌+◌, ◌-◌, ◌<◌, ◌≤◌, Bool, true, false, cond, ◌&&◌, leb, List, [], ◌∷◌, length, get_or, ℤ, pos, negsuc, Some, None, Option, sym, refl, ap, ◌∙◌, subst, ap₂, arith}
+use Rattle.std.proofs.Common.{◌≡◌, ℕ, ◌+◌, ◌-◌, ◌≤◌, Bool, true, false, cond, ◌&&◌, leb, List, [], ◌∷◌, length, get_or, ℤ, pos, negsuc, Some, sym, refl, ap, ◌∙◌, subst, ap₂, arith}
 use Rattle.std.proofs.lemmas.Option.{slice_get-get_or}
 use Rattle.std.proofs.lemmas.Bool.{le-leb, leb-true, and_parts}
-use Rattle.std.specs.List.{slice_get}
 use Rattle.figures.specs.Kinds.{Kind, is_zero}
 use Rattle.rolls.specs.Contents.{Contents}
 use Rattle.code.specs.declared.operations.Operation.{Operation}
@@ -10,7 +9,7 @@ use Rattle.code.specs.declared.operations.Operation.TheVariants as op
 use Rattle.code.specs.Codes.{Code, operation_at}
 use Rattle.code.specs.WellFormed.{WellFormed}
 use Rattle.machine.specs.declared.instruction.Instruction.{Instruction}
-use Rattle.machine.specs.declared.instruction.Instruction.TheVariants.{Halt, Pass, Calculate, Transfer, Go, Take, Post}
+use Rattle.machine.specs.declared.instruction.Instruction.TheVariants.{Pass, Calculate, Transfer, Go, Take, Post}
 use Rattle.machine.specs.declared.instruction.Calculation.{Calculation}
 use Rattle.machine.specs.declared.instruction.Transfer as transfers
 use Rattle.machine.specs.declared.instruction.Branch.{Branch}
@@ -18,9 +17,9 @@ use Rattle.machine.specs.declared.instruction.Branch.TheVariants.{Always, IfFals
 use Rattle.machine.specs.Faults.{Fault}
 use Rattle.machine.specs.Fits.{Fits, Follows, BranchOperand, branch_takes}
 use Rattle.machine.specs.Instructions.{instruction}
-use Rattle.machine.specs.Machine.{Attempt, gives, fails, lacks, Lack, figure, ◌>>=◌, one, calculated, transferred, gone, row, rows_at, taken_into, posted_in, Memory, State, ResultOf, goes, faults, with_cells, with_taken, with_posted, effect, settled}
+use Rattle.machine.specs.Machine.{Attempt, gives, fails, lacks, Lack, figure, ◌>>=◌, one, calculated, transferred, gone, row, rows_at, taken_into, posted_in, Memory, State, goes, faults, with_cells, with_taken, with_posted, effect, settled}
 use Rattle.machine.specs.Steps.{perform, performed}
-use Rattle.machine.proofs.Facts.{Facts, Onward, follows_on, follows_jump, follows_row, operation_to_inside, operands_as_long, rows_within}
+use Rattle.machine.proofs.Facts.{Facts, follows_on, follows_jump, follows_row, operation_to_inside, operands_as_long, rows_within}
 
 module _ {V : Type 0} (kind : Kind V) (c : Code) (s : State V) where
   pub performed_as : (o : Operation) (f : Instruction) (x : ℕ) → operation_at c.operations s.place ≡ Some o → f ≡ instruction o → x ≡ get_or c.operands s.place 0 → performed kind c s ≡ settled kind c s (effect kind c s f x)

@@ -1,12 +1,11 @@
 -- Checked code lacks nothing: an operation that finds the figures which the check counted goes on to a place where the
 -- same holds, or faults.
-use Rattle.std.proofs.Common.{◌≡◌, ℕ, zero, suc, ◌+◌, ◌-◌, ◌<◌, ◌≤◌, Bool, true, false, cond, ◌&&◌, ltb, leb, List, [], ◌∷◌, length, get_or, set, ℤ, pos, negsuc, Some, None, Option, sym, refl, ap, ◌∙◌, subst, arith, length-set}
+use Rattle.std.proofs.Common.{◌≡◌, ℕ, zero, suc, ◌+◌, ◌-◌, ◌<◌, ◌≤◌, Bool, true, false, cond, ltb, List, [], ◌∷◌, length, get_or, set, ℤ, pos, negsuc, Some, Option, sym, refl, ap, subst, arith, length-set}
 use Rattle.std.proofs.lemmas.Bool.{le-leb, lt-ltb, ltb-true}
 use Rattle.std.specs.List.{slice_get}
-use Rattle.figures.specs.Kinds.{Kind, Outcome, value, refused, is_zero}
+use Rattle.figures.specs.Kinds.{Kind, Outcome, value, refused}
 use Rattle.rolls.specs.Contents.{Contents, Taken, first, rest, took, refused as untaken, refused_at as untaken_at}
 use Rattle.code.specs.declared.descriptor.Descriptor.{Descriptor}
-use Rattle.code.specs.declared.operations.Operation.{Operation}
 use Rattle.code.specs.declared.operations.Operation.TheVariants as op
 use Rattle.code.specs.Codes.{Code, operation_at}
 use Rattle.code.specs.Descriptors.{unpacked}
@@ -20,13 +19,13 @@ use Rattle.machine.specs.declared.instruction.Transfer.TheVariants.{Load, Store,
 use Rattle.machine.specs.declared.instruction.Branch.{Branch}
 use Rattle.machine.specs.declared.instruction.Branch.TheVariants.{Always, IfFalse, ByTable}
 use Rattle.machine.specs.declared.fault.RunFault.TheVariants.{BookFull, Subscript}
-use Rattle.machine.specs.Faults.{Fault, fault_of}
+use Rattle.machine.specs.Faults.{fault_of}
 use Rattle.machine.specs.Fits.{Ends, Fits, Follows, BranchOperand, operations_left, stands_at, calculation_takes, transfer_takes, transfer_leaves, TransferOperand, branch_takes}
 use Rattle.machine.specs.Instructions.{instruction}
 use Rattle.machine.specs.Machine
 use Rattle.machine.specs.Machine.{Attempt, gives, fails, lacks, Lack, ◌>>=◌, calculation, loaded, found, stored, element, element_at, from_low, handed, calculated, transferred, gone, taken_into, posted_in, Memory, State, ResultOf, goes, faults, misses, effect, settled, of_one, of_two}
-use Rattle.machine.specs.Steps.{ends_step, ends_step_at, performed, run_to_end, step}
-use Rattle.machine.proofs.Facts.{Facts, Onward, facts_at, follows_on, operation_to_inside, operands_as_long, sound_at}
+use Rattle.machine.specs.Steps.{ends_step_at, performed, run_to_end, step}
+use Rattle.machine.proofs.Facts.{Facts, facts_at, follows_on}
 use Rattle.machine.proofs.Performing.{performed_as, branch_low, branch_names, follows_branch}
 use Rattle.machine.proofs.Standing.{stands_to_fits}
 use Rattle.machine.proofs.Stepping.{fewer_left, ended_stays, unrolled, stopped}

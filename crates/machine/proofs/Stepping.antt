@@ -1,10 +1,10 @@
 -- Operations one after another, to the end of a step.
-use Rattle.std.proofs.Common.{◌≡◌, ℕ, zero, suc, ◌+◌, ◌-◌, ◌<◌, ◌≤◌, Bool, true, false, cond, ◌⊎◌, length, sym, refl, ap, ◌∙◌, inl, inr, arith}
+use Rattle.std.proofs.Common.{◌≡◌, ℕ, zero, suc, ◌-◌, ◌<◌, ◌≤◌, Bool, true, false, cond, ◌⊎◌, length, sym, refl, ap, ◌∙◌, inl, inr, arith}
 use Rattle.figures.specs.Kinds.{Kind}
 use Rattle.code.specs.Codes.{Code, operation_at}
 use Rattle.machine.specs.Faults.{Fault}
 use Rattle.machine.specs.Fits.{Fits, Follows, operations_left}
-use Rattle.machine.specs.Machine.{Memory, State, ResultOf, goes, faults, misses}
+use Rattle.machine.specs.Machine.{Memory, State, ResultOf, goes, faults}
 use Rattle.machine.specs.Steps.{ends_step_at, onward, performed, run_to_end}
 
 abbrev ends_at : Code → ℕ → Bool

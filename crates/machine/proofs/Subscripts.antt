@@ -1,9 +1,9 @@
 -- Subscripts outside the bounds of an array fault.
-use Rattle.std.proofs.Common.{◌≡◌, ℕ, ◌+◌, ltb, ℤ, pos, negsuc, ◌≤ℤ◌, ◌<ℤ◌, refl, arith, ltb→lt, leb→le}
+use Rattle.std.proofs.Common.{◌≡◌, ◌+◌, ltb, ℤ, pos, negsuc, ◌≤ℤ◌, ◌<ℤ◌, refl, arith, ltb→lt, leb→le}
 use Rattle.std.proofs.lemmas.Bool.{cond-false, le-ltb}
 use Rattle.code.specs.declared.descriptor.Descriptor.{Descriptor}
 use Rattle.machine.specs.Faults.{fault_of}
-use Rattle.machine.specs.Machine.{Attempt, element_at, fails, gives}
+use Rattle.machine.specs.Machine.{element_at, fails, gives}
 use Rattle.machine.specs.declared.fault.RunFault.TheVariants.{Subscript}
 
 -- Below the low bound.

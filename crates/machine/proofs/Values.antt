@@ -1,8 +1,8 @@
 -- A roll of figures, as a roll of values.
-use Rattle.std.proofs.Common.{◌≡◌, ℕ, Bool, cond, List, [], ◌∷◌, map, sym, refl, ap, ◌∙◌}
+use Rattle.std.proofs.Common.{◌≡◌, ℕ, Bool, cond, List, [], ◌∷◌, map, refl, ap, ◌∙◌}
 use Rattle.figures.specs.Kinds.{Kind}
-use Rattle.rolls.specs.Contents.{Contents, HowItEnds, ends, damaged_at, first, first_of, at_ending, rest, rest_of}
-use Rattle.machine.specs.Machine.{Attempt, gives, handed, stored, element, taken_into}
+use Rattle.rolls.specs.Contents.{Contents, HowItEnds, ends, damaged_at, first, first_of, rest, rest_of}
+use Rattle.machine.specs.Machine.{gives, handed, stored, element, taken_into}
 use Rattle.machine.specs.Views.{valued}
 
 module _ {F V : Type 0} (means : F → V) where

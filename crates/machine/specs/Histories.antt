@@ -1,7 +1,7 @@
 -- Every sequence of calls on a run since it was started. A history says only that each call found what the one before it
 -- left; each call is known by the very statement that its contract makes. `SoundHistories` is what is promised of them for
 -- checked code. The steps asked for, the room on the stack and the cell asked for are each call's own.
-use Rattle.std.specs.Prelude.{◌≡◌, ℕ, suc, ◌+◌, ◌<◌, ◌≤◌, true, false, cond, ◌⊎◌, List, [], ◌∷◌, length, is_some, ◌≢◌}
+use Rattle.std.specs.Prelude.{◌≡◌, ℕ, suc, ◌+◌, ◌<◌, true, false, cond, ◌⊎◌, List, [], ◌∷◌, length, is_some, ◌≢◌}
 use Rattle.figures.specs.Kinds.{Kind, Outcome, value, refused}
 use Rattle.code.specs.Codes.{Code}
 use Rattle.machine.specs.Machine.{Lack, misses}

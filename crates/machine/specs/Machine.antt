@@ -1,7 +1,7 @@
 -- The machine, over the values of any kind of figures: what each form of operation does to the operand stack, the cells,
 -- the book and the roll. Lists are what the arrays hold, the stack top first. A reader must believe this file,
 -- `Instructions` and `Steps`.
-use Rattle.std.specs.Prelude.{ℕ, ◌+◌, Bool, true, false, cond, not, ◌&&◌, ◌||◌, List, [], ◌∷◌, length, ℤ, pos, negsuc, ◌+ℤ◌, ◌-ℤ◌, Some, None, Option, nat_le, nat_lt, slice_set}
+use Rattle.std.specs.Prelude.{ℕ, ◌+◌, Bool, cond, not, ◌&&◌, ◌||◌, List, [], ◌∷◌, length, ℤ, pos, negsuc, ◌+ℤ◌, ◌-ℤ◌, Some, None, Option, nat_le, nat_lt, slice_set}
 use Rattle.std.specs.List.{slice_get}
 use Rattle.figures.specs.Kinds.{Kind, Outcome, value, refused, is_zero}
 use Rattle.rolls.specs.Contents.{Contents, Taken, first, rest, took, refused as untaken, refused_at as untaken_at}

@@ -1,5 +1,5 @@
 -- What a run's value is to the definition of runs.
-use Rattle.std.specs.Prelude.{ℕ, List}
+use Rattle.std.specs.Prelude.{List}
 use Rattle.std.specs.Option.{option_map}
 use Rattle.rolls.specs.Contents.{Contents}
 use Rattle.code.specs.CheckedCode.{code_in}

@@ -1,5 +1,5 @@
 -- A run of code: its steps one after another, and what the calls on it answer and leave. A reader must believe this file.
-use Rattle.std.specs.Prelude.{◌≡◌, ℕ, zero, suc, ◌+◌, ◌-◌, Bool, true, false, cond, not, ◌||◌, List, [], length, replicate, is_some, Some, None, Option, ◌==◌, nat_le, nat_lt, slice_index, slice_set}
+use Rattle.std.specs.Prelude.{◌≡◌, ℕ, zero, suc, ◌+◌, ◌-◌, Bool, cond, ◌||◌, List, [], length, replicate, is_some, Some, None, Option, ◌==◌, nat_le, nat_lt, slice_index, slice_set}
 use Rattle.std.specs.List.{slice_get}
 use Rattle.figures.specs.Kinds.{Kind, Outcome, value, refused}
 use Rattle.code.specs.Codes.{Code, operation_at}

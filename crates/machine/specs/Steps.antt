@@ -1,15 +1,14 @@
 -- A step: from a MARK to the next MARK or HALT. Jumps within a step go forward, so a step takes at most as many operations
 -- as the code has; an operation that faults ends it, and those before it in the step stand.
-use Rattle.std.specs.Prelude.{ℕ, zero, suc, ◌+◌, Bool, true, false, cond, List, length, Some, None, Option, slice_index}
+use Rattle.std.specs.Prelude.{ℕ, zero, suc, ◌+◌, Bool, true, false, length, Some, None, Option, slice_index}
 use Rattle.figures.specs.Kinds.{Kind}
 use Rattle.code.specs.Codes.{Code, operation_at}
 use Rattle.code.specs.Operations.{role}
 use Rattle.code.specs.declared.operations.Operation.{Operation}
 use Rattle.code.specs.declared.operations.Role.{Role}
 use Rattle.code.specs.declared.operations.Role.TheVariants.{End, Step, Label, Goto, Branch, Switch, JumpTable, Straight}
-use Rattle.machine.specs.Faults.{Fault}
 use Rattle.machine.specs.Instructions.{instruction}
-use Rattle.machine.specs.Machine.{State, ResultOf, goes, faults, misses, Lack, operation, end, effect, settled}
+use Rattle.machine.specs.Machine.{State, ResultOf, goes, faults, misses, operation, end, effect, settled}
 
 -- A step ends before a MARK or a HALT, and a run at a HALT.
 abbrev pub role_ends : Role → Bool

@@ -11,7 +11,7 @@ use Rattle.meaning.specs.Laws.{has_label}
 use Rattle.translator.specs.Generator.{size}
 use Rattle.translator.specs.Translation.{entries, entries_of, table_place, text_label, text_loops, text_size}
 use Rattle.translator.specs.Agreement.{Setting}
-use Rattle.translator.specs.AcceptedCode.{HasSetting, AcceptedCode, AcceptedCodeLaw}
+use Rattle.translator.specs.AcceptedCode.{HasSetting, AcceptedCodeLaw}
 use Rattle.translator.proofs.AcceptedSetting.{accepted_setting}
 use Rattle.translator.proofs.AcceptedTexts.{text_to_verdict}
 use Rattle.translator.proofs.FewElements.{code_long, few_elements}

@@ -1,11 +1,11 @@
 -- What stands behind a piece of code: to drop as many entries as the piece has is to drop the piece.
-use Rattle.std.proofs.Common.{◌≡◌, ℕ, zero, suc, ◌+◌, List, [], ◌∷◌, length, drop, sym, refl, ap, ◌∙◌, arith, drop-drop}
+use Rattle.std.proofs.Common.{◌≡◌, ℕ, suc, ◌+◌, List, [], ◌∷◌, length, drop, sym, refl, ap, ◌∙◌, arith, drop-drop}
 use Rattle.words.specs.declared.token.Sign.TheVariants.{Plus, Minus}
 use Rattle.words.specs.declared.token.Relation.{Relation}
 use Rattle.words.specs.declared.token.Relation.TheVariants as relation
 use Rattle.grammar.specs.declared.operator.Prefix.{Prefix}
 use Rattle.grammar.specs.declared.operator.Prefix.TheVariants.{Negation, Signed}
-use Rattle.grammar.specs.Tree.{Name, Exp, literal, simple, subscripted, prefixed, joined, bracketed, compared, Variable, whole, indexed, Element, single, progression, Statement, labelled, conditional, repeated, assigned, go, switched, input, printed, stop, sequence}
+use Rattle.grammar.specs.Tree.{Name, Exp, literal, simple, subscripted, prefixed, joined, bracketed, compared, whole, indexed, Element, single, progression, Statement, labelled, conditional, repeated, assigned, go, switched, input, printed, stop, sequence}
 use Rattle.symbols.specs.declared.value_type.ValueType.{ValueType}
 use Rattle.symbols.specs.declared.value_type.ValueType.TheVariants.{Untyped, Integer, Boolean}
 use Rattle.meaning.specs.Names.{Names}

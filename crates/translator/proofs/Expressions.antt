@@ -1,5 +1,5 @@
 -- The code of an expression leaves its figure on the stack, or ends in its fault.
-use Rattle.std.proofs.Common.{◌≡◌, ℕ, zero, suc, ◌+◌, ◌*◌, ◌/◌, ◌%◌, ◌<◌, ◌≤◌, Bool, true, false, cond, not, ◌&&◌, ◌||◌, ltb, List, [], ◌∷◌, ◌++◌, length, ℤ, pos, negsuc, ◌+ℤ◌, ◌-ℤ◌, Some, None, sym, refl, ap, ◌∙◌, arith, ltb-true}
+use Rattle.std.proofs.Common.{◌≡◌, ℕ, zero, suc, ◌+◌, ◌*◌, ◌/◌, ◌%◌, ◌<◌, Bool, true, false, cond, not, ◌&&◌, ◌||◌, ltb, List, [], ◌∷◌, ◌++◌, length, ℤ, pos, negsuc, ◌+ℤ◌, ◌-ℤ◌, Some, None, sym, refl, ap, ◌∙◌, arith, ltb-true}
 use Rattle.std.proofs.lemmas.Int.{ints}
 use Rattle.std.specs.List.{slice_get}
 use Rattle.words.specs.declared.token.Sign.TheVariants.{Plus, Minus}
@@ -12,7 +12,6 @@ use Rattle.grammar.specs.declared.operator.Prefix.{Prefix}
 use Rattle.grammar.specs.declared.operator.Prefix.TheVariants.{Negation, Signed}
 use Rattle.grammar.specs.Tree.{Name, Exp, literal, simple, subscripted, prefixed, joined, bracketed, compared}
 use Rattle.figures.specs.Kinds.{Kind, Outcome, value, refused, Tells, same_as, is_zero}
-use Rattle.code.specs.declared.descriptor.Descriptor.{Descriptor}
 use Rattle.code.specs.Descriptors.{unpacked}
 use Rattle.meaning.specs.Names.{Extent, Names}
 use Rattle.meaning.specs.Expressions.{and_then, both, at_distance, element_cell, same_truth, is_true, truth_figure, stands_in, operation, prefix_operation, figure_in, subscripted_cell, figure}
@@ -22,10 +21,10 @@ use Rattle.code.specs.declared.operations.Operation.TheVariants.{Get, Not}
 use Rattle.machine.specs.declared.instruction.Instruction.TheVariants.{Transfer}
 use Rattle.machine.specs.declared.instruction.Transfer.TheVariants as transfers
 use Rattle.machine.specs.Faults.{Fault}
-use Rattle.machine.specs.Machine.{Attempt, gives, fails, ◌>>=◌, calculation, element_at, from_low, truth, element, Memory, ResultOf, faults}
+use Rattle.machine.specs.Machine.{gives, fails, ◌>>=◌, calculation, element_at, from_low, truth, element, Memory, ResultOf, faults}
 use Rattle.translator.specs.Generator.{Entry, entry, plain, descriptor, exp_size, prefix_size, prefix_code, operator_code, relation_size, relation_code, cell_at, cells_at, exp_code}
 use Rattle.translator.specs.Fits.{ExtentFits, ExpFits}
-use Rattle.translator.specs.Running.{Move, on, carried, follow, moved, runs}
+use Rattle.translator.specs.Running.{on, carried, follow, moved, runs}
 use Rattle.translator.specs.Simulation.{spread, ExpressionsRun}
 
 -- A cell among the first ones is there in a longer list too, with the figure that the statement machine finds.

@@ -1,10 +1,10 @@
 -- The steps of a for: the first step of an element stores its figure, then its number in the hidden cell, and goes to the
 -- body; the second step of a progression adds to the variable.
-use Rattle.std.proofs.Common.{◌≡◌, ℕ, zero, suc, ◌+◌, ◌-◌, ◌<◌, ◌≤◌, Bool, true, ltb, List, [], ◌∷◌, ◌++◌, length, drop, set, Some, None, sym, refl, ap, ◌∙◌, subst, suc-add, zero-add, arith, length-append, length-set, lt-ltb}
+use Rattle.std.proofs.Common.{◌≡◌, ℕ, zero, suc, ◌+◌, ◌-◌, ◌<◌, ◌≤◌, Bool, List, [], ◌∷◌, ◌++◌, length, drop, set, Some, sym, refl, ap, ◌∙◌, suc-add, zero-add, arith, length-append, length-set, lt-ltb}
 use Rattle.std.specs.List.{slice_get}
-use Rattle.grammar.specs.Tree.{Name, Exp, Element, single, progression, Statement}
+use Rattle.grammar.specs.Tree.{Exp, Element, single, progression, Statement}
 use Rattle.symbols.specs.declared.value_type.ValueType.{ValueType}
-use Rattle.figures.specs.Kinds.{Kind, Outcome, value, Counts}
+use Rattle.figures.specs.Kinds.{Kind, value, Counts}
 use Rattle.code.specs.declared.operations.Operation.TheVariants.{Store, Const, Jump, Add}
 use Rattle.meaning.specs.Names.{Names}
 use Rattle.meaning.specs.Expressions.{and_then, both, as_stored, cell_of, figure, figure_in}
@@ -16,9 +16,9 @@ use Rattle.translator.specs.Generator.{Entry, entry, plain, exp_size, exp_code, 
 use Rattle.translator.specs.Fits.{ExpFits}
 use Rattle.translator.specs.Running.{follow, runs}
 use Rattle.translator.specs.Simulation.{spread}
-use Rattle.translator.specs.Compiled.{Holds, Continues, again, AtLoop, Stands}
+use Rattle.translator.specs.Compiled.{Holds, again, AtLoop, Stands}
 use Rattle.translator.specs.Agreement.{Valid, Setting, Agrees, moves, StepsAlike}
-use Rattle.translator.proofs.Behind.{to as same_place, further, behind_first, behind_addition}
+use Rattle.translator.proofs.Behind.{to as same_place, further, behind_first}
 use Rattle.translator.proofs.Expressions.{cell_found, figure_made, loaded_on}
 use Rattle.translator.proofs.Placing.{enter_stands}
 use Rattle.translator.proofs.Resuming.{jump_rests, position_rests}

@@ -1,6 +1,5 @@
 -- The stack machine's own step agrees with the statement machine's: the law over all positions, over the bridge.
-use Rattle.std.proofs.Common.{◌≡◌, ℕ, ◌+◌, Bool, List, ◌++◌, length, sym, ◌∙◌, subst, arith, length-append}
-use Rattle.grammar.specs.Tree.{Statement}
+use Rattle.std.proofs.Common.{◌≡◌, ℕ, Bool, List, ◌++◌, length, sym, subst, arith, length-append}
 use Rattle.figures.specs.Kinds.{Kind}
 use Rattle.code.specs.declared.operations.Operation.TheVariants.{Mark, Halt}
 use Rattle.code.specs.declared.sizes.Sizes.{Sizes}

@@ -1,9 +1,9 @@
 -- The parts of a statement's code stand where they are counted to stand; so a statement that is entered, and a label that is
 -- looked for, stands at the place that the code has for it.
-use Rattle.std.proofs.Common.{◌≡◌, ℕ, suc, ◌+◌, ◌<◌, ◌≤◌, Bool, true, false, cond, ◌||◌, List, [], ◌∷◌, length, drop, sym, refl, ap, ◌∙◌, subst, arith}
+use Rattle.std.proofs.Common.{◌≡◌, ℕ, suc, ◌+◌, ◌≤◌, Bool, true, false, cond, ◌||◌, List, ◌∷◌, length, drop, sym, refl, ap, ◌∙◌, subst, arith}
 use Rattle.std.specs.Str.{bytes_eq}
 use Rattle.std.proofs.lemmas.Slice.Eq.{bytes_eq-Decides}
-use Rattle.grammar.specs.Tree.{Row, Name, Exp, Variable, Element, Statement, labelled, conditional, repeated, assigned, go, switched, input, printed, stop, sequence}
+use Rattle.grammar.specs.Tree.{Row, Name, Exp, Element, Statement, labelled, conditional, repeated, assigned, go, switched, input, printed, stop, sequence}
 use Rattle.figures.specs.Kinds.{Kind}
 use Rattle.code.specs.declared.operations.Operation.TheVariants.{Mark, Load, Jump, Table, Rows, Here}
 use Rattle.meaning.specs.Names.{Names}
@@ -12,7 +12,7 @@ use Rattle.symbols.specs.Jumps.{open_labels}
 use Rattle.meaning.specs.Laws.{has_label}
 use Rattle.meaning.proofs.Jumping.{among_both}
 use Rattle.translator.specs.Generator.{Entry, entry, plain, all_of, exp_size, type_of, elements_size, elements_code, turns_code, size, loops, code}
-use Rattle.translator.specs.Compiled.{Placed, LoopPlaced, Continues, passes, goes, AtStatement, AtLoop, AtPrint, Stands, seen_inside}
+use Rattle.translator.specs.Compiled.{Placed, LoopPlaced, Continues, passes, goes, Stands}
 use Rattle.translator.specs.Simulation.{PlacingLaw}
 use Rattle.translator.proofs.Behind.{to, further, behind_exp, behind_elements, behind_turns, behind}
 

@@ -1,5 +1,5 @@
 -- The promise is kept by the tree of every accepted text.
-use Rattle.std.proofs.Common.{◌≡◌, ℕ, suc, ◌+◌, ◌≤◌, Bool, true, cond, ◌||◌, List, length, take, drop, is_some, Some, None, Option, sym, refl, ap, ◌∙◌, subst, arith}
+use Rattle.std.proofs.Common.{◌≡◌, ℕ, ◌+◌, ◌≤◌, Bool, true, cond, ◌||◌, List, length, take, drop, is_some, Some, None, Option, sym, refl, ap, ◌∙◌, subst, arith}
 use Rattle.std.proofs.lemmas.List.{length-drop, length-take-le, take-append-drop, take_at}
 use Rattle.std.specs.List.{slice_get}
 use Rattle.grammar.specs.Tree.{Statement, Program}
@@ -12,7 +12,6 @@ use Rattle.code.proofs.Passing.{passes_to_well_formed}
 use Rattle.symbols.specs.Texts.{answer, accepted}
 use Rattle.meaning.specs.Names.{names_of}
 use Rattle.meaning.specs.Positions.{nothing, beginning, enter, statements}
-use Rattle.meaning.specs.Laws.{has_label}
 use Rattle.meaning.specs.Machine as text
 use Rattle.meaning.specs.Runs.{initial, Steps, no_step}
 use Rattle.machine.specs.Histories.{History, Started, tried}
@@ -21,8 +20,8 @@ use Rattle.machine.specs.Runs.{Run, at_halt, ended, run, standing}
 use Rattle.machine.specs.Steps.{halts}
 use Rattle.machine.proofs.Advancing.{ended_runs}
 use Rattle.machine.proofs.Laws.{histories_sound}
-use Rattle.translator.specs.Generator.{plain, size}
-use Rattle.translator.specs.Translation.{entries, entries_of, sizes_of, table_place, text_label, text_loops, translated}
+use Rattle.translator.specs.Generator.{plain}
+use Rattle.translator.specs.Translation.{entries, entries_of, sizes_of, text_loops, translated}
 use Rattle.translator.specs.Simulation.{spread}
 use Rattle.translator.specs.Compiled.{ends}
 use Rattle.translator.specs.Agreement.{Setting}

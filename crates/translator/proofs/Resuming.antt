@@ -1,18 +1,18 @@
 -- Where the run comes to rest after a statement: at the next step of what comes after it.
-use Rattle.std.proofs.Common.{◌≡◌, ℕ, zero, suc, ◌+◌, ◌-◌, ◌<◌, ◌≤◌, Bool, true, false, cond, ◌&&◌, ◌||◌, ltb, leb, List, [], ◌∷◌, map, length, drop, pos, Some, sym, refl, ap, ◌∙◌, subst, arith, ltb-true, lt-ltb, le-leb}
+use Rattle.std.proofs.Common.{◌≡◌, ℕ, zero, suc, ◌+◌, ◌-◌, ◌<◌, ◌≤◌, Bool, true, false, cond, ◌&&◌, ◌||◌, ltb, leb, List, [], ◌∷◌, map, drop, pos, Some, sym, refl, ap, ◌∙◌, subst, arith, ltb-true, lt-ltb, le-leb}
 use Rattle.std.specs.List.{slice_get}
 use Rattle.grammar.specs.Tree.{Exp, Element, single, progression, Statement}
 use Rattle.figures.specs.Kinds.{Kind}
-use Rattle.code.specs.declared.operations.Operation.TheVariants.{Halt, Mark, Load, Jump, Table, Rows, Here}
+use Rattle.code.specs.declared.operations.Operation.TheVariants.{Halt, Mark, Jump, Table, Rows}
 use Rattle.machine.specs.declared.instruction.Instruction.TheVariants.{Go}
 use Rattle.machine.specs.declared.instruction.Branch.TheVariants.{ByTable}
-use Rattle.machine.specs.Machine.{Attempt, gives, ◌>>=◌, rows_at, Memory, ResultOf, goes as comes_to}
+use Rattle.machine.specs.Machine.{gives, ◌>>=◌, rows_at, Memory, ResultOf, goes as comes_to}
 use Rattle.meaning.specs.Names.{Names}
-use Rattle.meaning.specs.Positions.{Loop, Continuation, nothing, rest, turn, Position, end, at_assignment, at_go, at_switch, at_if, at_input, at_print, at_stop, at_element, at_addition, at_test, enter, next_element, leave, find, destination}
+use Rattle.meaning.specs.Positions.{Loop, Continuation, turn, Position, end, at_assignment, at_go, at_switch, at_if, at_input, at_print, at_stop, at_element, at_addition, at_test, enter, next_element, leave, find, destination}
 use Rattle.meaning.specs.Laws.{has_label}
 use Rattle.translator.specs.Generator.{Entry, entry, plain, type_of, first_size, addition_size, element_size, next_place, turn_place, turns_code}
-use Rattle.translator.specs.Running.{Move, on, to, state, by_row, carried, moved, runs}
-use Rattle.translator.specs.Compiled.{Placed, LoopPlaced, Holds, Continues, ends, passes, goes, again, AtStatement, AtLoop, AtPrint, Stands, Laid_out}
+use Rattle.translator.specs.Running.{on, to, state, by_row, carried, moved, runs}
+use Rattle.translator.specs.Compiled.{Placed, LoopPlaced, Holds, Continues, ends, passes, goes, again, Stands}
 use Rattle.translator.specs.Simulation.{FlowLaw}
 use Rattle.translator.proofs.Behind.{to as same_place, further, behind_first, behind_addition, behind_element}
 use Rattle.translator.proofs.Placing.{enter_stands, find_none, find_stands}

@@ -1,26 +1,25 @@
 -- One lemma for each kind of position: the code's step from where the position stands is the statement machine's step.
-use Rattle.std.proofs.Common.{◌≡◌, ℕ, suc, ◌+◌, ◌<◌, ◌≤◌, Bool, true, false, cond, not, ltb, List, [], ◌∷◌, ◌++◌, length, drop, set, Some, None, sym, refl, ap, ◌∙◌, subst, append_assoc, arith, length-append, length-set, ltb-true}
-use lib.Seq.{set-append_seam}
-use Rattle.grammar.specs.Tree.{Name, Exp, Variable, whole, indexed, Statement, conditional}
+use Rattle.std.proofs.Common.{◌≡◌, ℕ, suc, ◌+◌, ◌<◌, Bool, true, false, cond, not, ltb, List, [], ◌∷◌, ◌++◌, length, drop, Some, None, sym, refl, ap, ◌∙◌, subst, arith, length-append, length-set, ltb-true}
+use Rattle.grammar.specs.Tree.{Name, Exp, whole, indexed, Statement}
 use Rattle.symbols.specs.declared.value_type.ValueType.{ValueType}
 use Rattle.figures.specs.Kinds.{Kind, Outcome, value, refused, is_zero}
 use Rattle.code.specs.declared.operations.Operation.TheVariants.{Halt, Here, Test, Put, Post}
 use Rattle.meaning.specs.Names.{Extent, Names}
 use Rattle.meaning.specs.Expressions.{and_then, element_cell, as_stored, figure, subscripted_cell}
-use Rattle.meaning.specs.Positions.{Continuation, Position, end, at_assignment, at_go, at_if, at_print, at_stop, enter, leave, next_print, destination}
+use Rattle.meaning.specs.Positions.{Continuation, Position, at_assignment, at_go, at_if, at_print, at_stop, enter, leave, next_print, destination}
 use Rattle.meaning.specs.Machine as statements
 use Rattle.meaning.specs.Machine.{Next, on_to, worked_out, after_if, store, post, post_if}
-use Rattle.machine.specs.Machine.{gives, fails, calculation, Memory, ResultOf, goes as comes_to, with_posted}
+use Rattle.machine.specs.Machine.{gives, calculation, Memory, ResultOf}
 use Rattle.translator.specs.Generator.{Entry, entry, plain, exp_size, cell_at, cells_at, type_of, ready_size, ready_code, exp_code, posts_size, posts_code, size, code}
 use Rattle.translator.specs.Fits.{ExpFits, ExtentFits}
-use Rattle.translator.specs.Running.{to, on, state, carried, follow, runs}
+use Rattle.translator.specs.Running.{to, on, carried, follow, runs}
 use Rattle.translator.specs.Simulation.{spread}
-use Rattle.translator.specs.Compiled.{ExpsFit, Continues, AtStatement, AtPrint, Stands}
+use Rattle.translator.specs.Compiled.{ExpsFit, Continues, Stands}
 use Rattle.translator.specs.Agreement.{Valid, Setting, Agrees, moves, faults, StepsAlike}
-use Rattle.translator.proofs.Behind.{to as same_place, further, behind_exp}
+use Rattle.translator.proofs.Behind.{further, behind_exp}
 use Rattle.translator.proofs.Expressions.{onward, at_place, element_agrees, element_below, exp_runs}
-use Rattle.translator.proofs.Placing.{governed, behind_if, continues_behind_if, enter_stands}
-use Rattle.translator.proofs.Resuming.{Rests, at_halt, rests, jump_on, jump_rests, position_rests, resume, destination_stands}
+use Rattle.translator.proofs.Placing.{governed, continues_behind_if, enter_stands}
+use Rattle.translator.proofs.Resuming.{at_halt, rests, jump_on, jump_rests, position_rests, resume, destination_stands}
 use Rattle.translator.proofs.Storing.{ready_runs, store_runs, put_runs, test_on, test_fails, post_on, post_fails, posted_behind, posted_memory, named_set_keeps, continues_kept}
 
 module _ {V : Type 0} (kind : Kind V) (c : List Entry) (names : Names) (label_at table_at : List ℕ → ℕ) (halt_at v m : ℕ) (outer : List ℕ → Bool) where

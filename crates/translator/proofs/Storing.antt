@@ -1,5 +1,5 @@
 -- The ends of steps that store a figure: it is made ready for its name, put into its cell, and what follows still stands.
-use Rattle.std.proofs.Common.{◌≡◌, ℕ, zero, suc, ◌+◌, ◌<◌, ◌≤◌, Bool, true, false, ltb, List, [], ◌∷◌, ◌++◌, length, drop, set, None, sym, refl, ap, ◌∙◌, subst, append_assoc, arith, length-append, lt-ltb}
+use Rattle.std.proofs.Common.{◌≡◌, ℕ, zero, suc, ◌+◌, ◌<◌, ◌≤◌, Bool, true, false, ltb, List, [], ◌∷◌, ◌++◌, length, set, None, sym, refl, ap, ◌∙◌, append_assoc, arith, length-append, lt-ltb}
 use lib.Seq.{set-append_left, set-append_seam}
 use Rattle.std.specs.List.{slice_get}
 use Rattle.symbols.specs.declared.value_type.ValueType.{ValueType}
@@ -18,8 +18,8 @@ use Rattle.machine.specs.Machine.{Memory, ResultOf, faults, gives, fails, elemen
 use Rattle.translator.specs.Generator.{Entry, entry, ready_size, ready_code}
 use Rattle.translator.specs.Running.{carried, follow, moved, runs}
 use Rattle.translator.specs.Simulation.{spread}
-use Rattle.translator.specs.Compiled.{Holds, Continues, ends, passes, goes, again}
-use Rattle.translator.proofs.Expressions.{at_place, follow_same, figure_made, truth_made}
+use Rattle.translator.specs.Compiled.{Continues, ends, passes, goes, again}
+use Rattle.translator.proofs.Expressions.{at_place, follow_same, truth_made}
 
 -- Other cells keep their figures.
 pub nth_set_other : {A : Type 0} (xs : List A) (i j : ℕ) (x : A) → (i ≡ j → ⊥) → slice_get (set xs i x) j ≡ slice_get xs j

@@ -1,20 +1,20 @@
 -- The step of a go to by a switch: the table picks the k-th label's row, or the flow goes on.
-use Rattle.std.proofs.Common.{◌≡◌, ℕ, zero, suc, ◌+◌, ◌<◌, ◌≤◌, Bool, true, false, cond, ◌&&◌, leb, List, [], ◌∷◌, ◌++◌, map, length, drop, ℤ, pos, negsuc, Some, None, Option, sym, refl, ap, ◌∙◌, subst, arith, le-leb}
+use Rattle.std.proofs.Common.{◌≡◌, ℕ, zero, suc, ◌+◌, ◌<◌, ◌≤◌, Bool, true, cond, ◌&&◌, leb, List, [], ◌∷◌, ◌++◌, map, length, drop, ℤ, pos, negsuc, Some, None, Option, sym, refl, ap, ◌∙◌, arith, le-leb}
 use borrow.Author.Tests.{lt-leb}
 use Rattle.std.specs.List as maps
 use Rattle.grammar.specs.Tree.{Name, Exp, Statement}
 use Rattle.figures.specs.Kinds.{Kind}
-use Rattle.code.specs.declared.operations.Operation.TheVariants.{Jump, Rows, Table}
+use Rattle.code.specs.declared.operations.Operation.TheVariants.{Jump, Rows}
 use Rattle.machine.specs.Machine.{gives, ◌>>=◌, rows_at, Memory, ResultOf}
 use Rattle.meaning.specs.Names.{Names}
-use Rattle.meaning.specs.Positions.{Continuation, Position, at_switch, nth, kth, destination}
+use Rattle.meaning.specs.Positions.{Continuation, at_switch, nth, kth, destination}
 use Rattle.meaning.specs.Machine as statements
 use Rattle.meaning.specs.Machine.{Next, on_to, go_or_leave}
 use Rattle.translator.specs.Generator.{Entry, entry, exp_size}
 use Rattle.translator.specs.Translation.{rows_code, table_code}
 use Rattle.translator.specs.Running.{to, on, by_row, carried, runs}
 use Rattle.translator.specs.Simulation.{spread}
-use Rattle.translator.specs.Compiled.{AllSeen, AtStatement, Stands}
+use Rattle.translator.specs.Compiled.{AllSeen, Stands}
 use Rattle.translator.specs.Agreement.{Valid, Setting, Agrees, moves, StepsAlike}
 use Rattle.translator.proofs.Behind.{further, behind_exp}
 use Rattle.translator.proofs.Expressions.{onward, at_place}

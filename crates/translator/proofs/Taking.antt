@@ -1,11 +1,11 @@
 -- The step of in: the subscript is tested, then a figure is taken from the roll and stored.
-use Rattle.std.proofs.Common.{◌≡◌, ℕ, suc, ◌+◌, ◌<◌, ◌≤◌, Bool, true, false, cond, ltb, List, [], ◌∷◌, ◌++◌, length, drop, set, ℤ, pos, ◌-ℤ◌, Some, None, sym, refl, ap, ◌∙◌, subst, arith, length-append, length-set, lt-ltb}
+use Rattle.std.proofs.Common.{◌≡◌, ℕ, suc, ◌+◌, ◌<◌, Bool, true, false, cond, ltb, List, [], ◌∷◌, ◌++◌, length, drop, set, pos, ◌-ℤ◌, Some, None, refl, ap, ◌∙◌, arith, length-append, length-set, lt-ltb}
 use lib.Seq.{set-append_left}
-use Rattle.grammar.specs.Tree.{Name, Exp, Variable, whole, indexed, Statement}
+use Rattle.grammar.specs.Tree.{Name, Exp, whole, indexed, Statement}
 use Rattle.symbols.specs.declared.value_type.ValueType.{ValueType}
 use Rattle.symbols.specs.declared.value_type.ValueType.TheVariants.{Untyped, Integer, Boolean}
 use Rattle.figures.specs.Kinds.{Kind, Outcome, value, refused, Counts}
-use Rattle.rolls.specs.Contents.{Contents, Taken, took, refused as ended, refused_at as damaged, first as first_figure, rest as rest_of_roll}
+use Rattle.rolls.specs.Contents.{Taken, took, refused as ended, refused_at as damaged, first as first_figure, rest as rest_of_roll}
 use Rattle.machine.specs.declared.instruction.Instruction.TheVariants.{Take as Takes}
 use Rattle.machine.specs.Faults.{Fault}
 use Rattle.machine.specs.Machine.{gives, fails, calculation, element, Memory, ResultOf, faults as breaks, with_taken}
@@ -18,8 +18,8 @@ use Rattle.translator.specs.Generator.{Entry, entry, exp_size, cell_at, cells_at
 use Rattle.translator.specs.Fits.{ExtentFits}
 use Rattle.translator.specs.Running.{carried, follow, moved, runs}
 use Rattle.translator.specs.Simulation.{spread}
-use Rattle.translator.specs.Compiled.{Continues, AtStatement, Stands}
-use Rattle.translator.specs.Agreement.{Valid, Setting, Agrees, moves, faults, StepsAlike}
+use Rattle.translator.specs.Compiled.{Continues, Stands}
+use Rattle.translator.specs.Agreement.{Valid, Setting, Agrees, faults, StepsAlike}
 use Rattle.translator.proofs.Expressions.{at_place, element_agrees, element_below, figure_made}
 use Rattle.translator.proofs.Storing.{named_set_keeps, continues_kept}
 use Rattle.translator.proofs.Stepping.{agrees_by, agrees_for, worked_then, evaluates, leaves}

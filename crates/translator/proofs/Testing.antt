@@ -1,11 +1,11 @@
 -- The third step of a progression, its test: the sign of the step says which way the variable goes; if the variable is not
 -- past the limit the body comes again, else the next element, or what stands behind the for.
-use Rattle.std.proofs.Common.{◌≡◌, ℕ, suc, ◌+◌, ◌<◌, ◌≤◌, Bool, true, false, cond, List, [], ◌∷◌, ◌++◌, length, drop, Some, sym, refl, ap, ◌∙◌, arith}
+use Rattle.std.proofs.Common.{◌≡◌, ℕ, suc, ◌+◌, ◌<◌, ◌≤◌, Bool, true, false, cond, List, [], ◌∷◌, ◌++◌, length, drop, Some, refl, ap, ◌∙◌, arith}
 use Rattle.grammar.specs.Tree.{Exp, Element, progression, Statement}
 use Rattle.symbols.specs.declared.value_type.ValueType.{ValueType}
 use Rattle.figures.specs.Kinds.{Kind, Outcome, value}
 use Rattle.code.specs.declared.operations.Operation.{Operation}
-use Rattle.code.specs.declared.operations.Operation.TheVariants.{Const, Load, Less, More, Jump, False}
+use Rattle.code.specs.declared.operations.Operation.TheVariants.{Load, Less, More, Jump, False}
 use Rattle.meaning.specs.Names.{Names}
 use Rattle.meaning.specs.Expressions.{and_then, both, figure, figure_in}
 use Rattle.meaning.specs.Positions.{Loop, Continuation, turn, Position, at_test, enter}

@@ -1,9 +1,9 @@
 -- Where the code of a position stands, as a relation: the code of a statement stands between two places; what comes after a
 -- statement, a continuation, stands at a place, and the hidden cells hold the numbers of the elements in use. Nobody has to
 -- believe this file: it only carries the proof from step to step.
-use Rattle.std.specs.Prelude.{◌≡◌, ℕ, suc, ◌+◌, ◌<◌, ◌≤◌, Bool, true, ◌||◌, List, [], ◌∷◌, ◌++◌, length, drop, pos, Some, None, Option, ◌≢◌}
+use Rattle.std.specs.Prelude.{◌≡◌, ℕ, suc, ◌+◌, ◌<◌, ◌≤◌, Bool, true, ◌||◌, List, [], ◌∷◌, length, drop, pos, Some, ◌≢◌}
 use Rattle.std.specs.List.{slice_get}
-use Rattle.grammar.specs.Tree.{Name, Exp, Variable, whole, indexed, Element, single, progression, Statement, labelled, conditional, repeated, assigned, go, switched, input, printed, stop, sequence}
+use Rattle.grammar.specs.Tree.{Exp, Variable, whole, indexed, Element, single, progression, Statement, labelled, conditional, repeated, assigned, go, switched, input, printed, stop, sequence}
 use Rattle.symbols.specs.declared.value_type.ValueType.{ValueType}
 use Rattle.symbols.specs.declared.value_type.ValueType.TheVariants.{Boolean}
 use Rattle.figures.specs.Kinds.{Kind}

@@ -1,7 +1,7 @@
 -- The code of a tree, in the order of the text. Every function puts its code in front of the code r that follows, so that
 -- the code of a part is at hand with what stands behind it. Sizes come first: they give each part its place, and with it
 -- every jump its target. Nobody has to believe this file, since what the code does is proved.
-use Rattle.std.specs.Prelude.{ℕ, zero, suc, ◌+◌, max, Bool, true, false, cond, List, [], ◌∷◌, ◌++◌, map, length, ℤ, pos, ◌+ℤ◌, Some, None, Option}
+use Rattle.std.specs.Prelude.{ℕ, suc, ◌+◌, max, cond, List, [], ◌∷◌, length, pos, ◌+ℤ◌}
 use Rattle.std.specs.Str.{bytes_eq}
 use Rattle.words.specs.declared.token.Sign.TheVariants.{Plus, Minus}
 use Rattle.words.specs.declared.token.Scaling.TheVariants.{Times, Over}
@@ -11,18 +11,16 @@ use Rattle.grammar.specs.declared.operator.Operator.{Operator}
 use Rattle.grammar.specs.declared.operator.Operator.TheVariants.{Equivalence, Disjunction, Conjunction, Additive, Multiplicative}
 use Rattle.grammar.specs.declared.operator.Prefix.{Prefix}
 use Rattle.grammar.specs.declared.operator.Prefix.TheVariants.{Negation, Signed}
-use Rattle.grammar.specs.Tree.{Row, Name, Exp, literal, simple, subscripted, prefixed, joined, bracketed, compared, Variable, whole, indexed, Element, single, progression, Statement, labelled, conditional, repeated, assigned, go, switched, input, printed, stop, sequence, Program}
+use Rattle.grammar.specs.Tree.{Row, Name, Exp, literal, simple, subscripted, prefixed, joined, bracketed, compared, Variable, whole, indexed, Element, single, progression, Statement, labelled, conditional, repeated, assigned, go, switched, input, printed, stop, sequence}
 use Rattle.symbols.specs.declared.value_type.ValueType.{ValueType}
 use Rattle.symbols.specs.declared.value_type.ValueType.TheVariants.{Untyped, Integer, Boolean}
-use Rattle.symbols.specs.Symbols.{Kind, a_label, a_switch, an_array, a_variable, Symbol, symbols, named_cells, at_least_zero}
-use Rattle.meaning.specs.Names.{Extent, Names, names_in, labels_of}
-use Rattle.meaning.specs.Positions.{first, later, statements}
+use Rattle.symbols.specs.Symbols.{at_least_zero}
+use Rattle.meaning.specs.Names.{Extent, Names}
+use Rattle.meaning.specs.Positions.{first, later}
 use Rattle.meaning.specs.Machine.{variable_place, variable_name}
 use Rattle.code.specs.declared.operations.Operation.{Operation}
-use Rattle.code.specs.declared.operations.Operation.TheVariants.{Halt, Mark, Const, Load, Store, Get, Put, Test, Round, Truth, Add, Sub, Mul, Div, Neg, Less, Same, More, Not, And, Or, Eqv, Jump, False, Table, Rows, Here, Take, TakeW, Post}
-use Rattle.code.specs.Operations.{number}
+use Rattle.code.specs.declared.operations.Operation.TheVariants.{Mark, Const, Load, Store, Get, Put, Test, Round, Truth, Add, Sub, Mul, Div, Neg, Less, Same, More, Not, And, Or, Eqv, Jump, False, Table, Rows, Here, Take, TakeW, Post}
 use Rattle.code.specs.Descriptors.{packed_number}
-use Rattle.code.specs.Codes.{Code}
 
 -- An operation with its operand.
 pub record Entry : Type 0 where

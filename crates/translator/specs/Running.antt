@@ -1,14 +1,14 @@
 -- The run within a step as a recursion on the code that is left to run, which no fuel bounds: an operation goes on to the
 -- next one, or jumps, further on by passing over operations, or back to where a step ends. Nobody has to believe this file:
 -- it is tied to the machine's own definition.
-use Rattle.std.specs.Prelude.{ℕ, zero, suc, ◌+◌, ◌-◌, Bool, cond, ◌&&◌, List, [], ◌∷◌, map, ℤ, pos, negsuc, None, nat_le, nat_lt}
+use Rattle.std.specs.Prelude.{ℕ, zero, suc, ◌+◌, ◌-◌, cond, ◌&&◌, List, [], ◌∷◌, map, ℤ, pos, negsuc, None, nat_le, nat_lt}
 use Rattle.std.specs.List.{slice_get}
 use Rattle.figures.specs.Kinds.{Kind, Outcome, value, refused, is_zero}
 use Rattle.machine.specs.declared.instruction.Instruction.{Instruction}
 use Rattle.machine.specs.declared.instruction.Instruction.TheVariants.{Halt, Pass, Calculate, Transfer, Go, Take, Post}
 use Rattle.machine.specs.declared.instruction.Branch.TheVariants.{Always, IfFalse, ByTable}
 use Rattle.machine.specs.Instructions.{instruction}
-use Rattle.machine.specs.Machine.{Lack, operation, Attempt, gives, fails, lacks, ◌>>=◌, one, rows_at, calculated, transferred, taken_into, posted_in, Memory, State, ResultOf, goes, faults, misses, with_cells, with_taken, with_posted}
+use Rattle.machine.specs.Machine.{operation, Attempt, gives, fails, lacks, ◌>>=◌, one, rows_at, calculated, transferred, taken_into, posted_in, Memory, State, ResultOf, goes, faults, misses, with_cells, with_taken, with_posted}
 use Rattle.machine.specs.Steps.{ends_step}
 use Rattle.translator.specs.Generator.{Entry}
 

@@ -1,7 +1,6 @@
-use Rattle.std.proofs.Common.{◌≡◌, true, cond, ltb, map, length, set, sym, ap, ◌∙◌}
+use Rattle.std.proofs.Common.{map, sym, ap, ◌∙◌}
 use Rattle.std.proofs.lemmas.List.{length-map}
-use Rattle.std.proofs.lemmas.Bool.{lt-ltb}
-use Rattle.machine.specs.Machine.{gives, lacks, cell}
+use Rattle.machine.specs.Machine.{gives}
 use Rattle.machine.proofs.Arrays.{map_set, stored_inside}
 use Rattle.machine.proofs.operands.put.Goals as goal
 

@@ -1,4 +1,4 @@
-use Rattle.std.proofs.Common.{◌≡◌, map, length, sym, ap, ◌∙◌, arith}
+use Rattle.std.proofs.Common.{map, length, sym, ap, ◌∙◌, arith}
 use Rattle.machine.specs.Runs.{filled}
 use Rattle.machine.proofs.Arrays.{fill_more, fill_all, map_replicate}
 use Rattle.machine.proofs.prepare.fill_with_zero.Goals as goal

@@ -1,4 +1,4 @@
-use Rattle.std.proofs.Common.{◌≡◌, get_or, sym, ap, ◌∙◌}
+use Rattle.std.proofs.Common.{get_or, sym, ap, ◌∙◌}
 use Rattle.code.specs.CheckedCode.{code_in}
 use Rattle.code.specs.Operations.{operation}
 use Rattle.code.proofs.Places.{operation_at_inside}

@@ -1,4 +1,4 @@
-use Rattle.std.proofs.Common.{◌≡◌, map, sym, ap, ◌∙◌}
+use Rattle.std.proofs.Common.{map, sym, ap, ◌∙◌}
 use Rattle.machine.specs.Machine.{gives, handed}
 use Rattle.machine.specs.Views.{valued}
 use Rattle.machine.proofs.Values.{handed_value, rest_value, taken_goes}

@@ -1,9 +1,9 @@
 -- The refusals in the order of their numbers, and the steps.
-use Rattle.std.proofs.Common.{◌≡◌, ◌+◌, ◌-◌, ◌<◌, ◌≤◌, true, false, eqb, leb, map, length, sym, refl, ap, ◌∙◌, arith}
+use Rattle.std.proofs.Common.{◌≡◌, ◌+◌, ◌-◌, true, false, eqb, map, length, sym, refl, ap, ◌∙◌, arith}
 use Rattle.std.proofs.lemmas.List.{length-map}
 use Rattle.std.proofs.lemmas.Bool.{le-leb, lt-leb}
 use Rattle.code.specs.CheckedCode.{code_in}
-use Rattle.machine.specs.Runs.{ended, run, stepped}
+use Rattle.machine.specs.Runs.{ended}
 use Rattle.machine.specs.RunViews.{progress_of, run_of}
 use Rattle.machine.proofs.Advancing.{advances, ended_runs, goes_ahead, refused_41, refused_42, refused_44, refused_45, refused_46, refuses, run_more, run_none}
 use Rattle.machine.proofs.Facts.{well_formed}

@@ -1,14 +1,14 @@
-use Rattle.std.proofs.Common.{◌≡◌, ℕ, ◌+◌, false, ◌||◌, is_some, Option, sym, refl, ap, ◌∙◌, arith}
+use Rattle.std.proofs.Common.{◌+◌, is_some, Option, sym, refl, ap, ◌∙◌, arith}
 use Rattle.std.proofs.lemmas.Bool.{or_parts}
 use Rattle.std.specs.Option.{option_map}
 use Rattle.code.specs.CheckedCode.{code_in}
 use Rattle.machine.specs.Faults.{Fault, fault_of}
-use Rattle.machine.specs.Runs.{Run, at_halt, ended}
+use Rattle.machine.specs.Runs.{at_halt}
 use Rattle.machine.specs.RunViews.{progress_of, run_of}
 use Rattle.machine.specs.Views.{memory}
 use Rattle.machine.proofs.Advancing.{none_mapped, stepped_to}
 use Rattle.machine.proofs.Facts.{well_formed}
-use Rattle.machine.proofs.Standing.{ends_to_stands, stands_to_fits, stands_to_mark}
+use Rattle.machine.proofs.Standing.{stands_to_fits, stands_to_mark}
 use Rattle.machine.proofs.running.Running.make_step.Goals as goal
 
 pub step-requires : goal.step-requires
