@@ -8,7 +8,7 @@ use Rattle.code.specs.declared.operations.Operation.{Operation}
 use Rattle.code.specs.declared.operations.Operation.TheVariants.{Halt, Mark}
 use Rattle.code.specs.declared.operations.Role.{Role}
 use Rattle.code.specs.declared.operations.Role.TheVariants.{End, Step, Label, Goto, Branch, Switch, JumpTable, Straight}
-use Rattle.code.specs.Operations.{operation, operand, role, left}
+use Rattle.code.specs.Operations.{operation, operand, role}
 use Rattle.code.specs.Codes.{Code, operation_at}
 use Rattle.code.specs.Check.{Ruling, goes_on, breaks, passes, refused, check, check_from, sizes_ok, opens, depth_after, target_ok}
 use Rattle.code.specs.WellFormed.{depth_at, depth_past, SoundAt, WellFormed}

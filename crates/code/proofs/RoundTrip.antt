@@ -8,7 +8,7 @@ use Rattle.std.specs.List.{flat_map}
 use Rattle.code.specs.declared.sizes.Sizes.{Sizes}
 use Rattle.code.specs.Codes.{code_of}
 use Rattle.code.specs.Check.{lent_ok, limits_ok}
-use Rattle.code.specs.Files.{bytes_of, number_of, header, file, file_length, sizes_in, numbers, gives, store, load, loaded, Reloads, Restores}
+use Rattle.code.specs.Files.{bytes_of, number_of, header, file, file_length, sizes_in, numbers, gives, load, Reloads, Restores}
 use Rattle.code.proofs.Bytes.{length_bytes_of, length_numbers}
 use Rattle.code.proofs.Storing.{load_done}
 

@@ -1,6 +1,5 @@
 -- How stored numbers of 32 bits enter the calculations in 64 bits.
-use Rattle.std.proofs.Common.{◌≡◌, ℕ, zero, suc, ◌+◌, ◌/◌, ◌≤◌, ℤ, pos, negsuc, neg_ℤ, ◌≤ℤ◌, refl, zero-le, le_trans, le_refl, div-le_self, arith, leb→le, w32, w64, to_z, of_z}
-use native.Mathlib.Nat.{le-suc}
+use Rattle.std.proofs.Common.{◌≡◌, ℕ, zero, suc, ◌+◌, ◌/◌, ◌≤◌, ℤ, pos, negsuc, neg_ℤ, ◌≤ℤ◌, refl, le_refl, div-le_self, arith, leb→le, w32, w64, to_z, of_z}
 use lib.Signed.{mag, quot_z}
 use Rattle.figures.specs.Range.{in_range, quotient}
 

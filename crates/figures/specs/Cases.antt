@@ -1,5 +1,5 @@
 -- Worked cases of both kinds, each by computation from the definitions.
-use Rattle.std.specs.Prelude.{◌≡◌, true, false, ℤ, pos, negsuc}
+use Rattle.std.specs.Prelude.{◌≡◌, false, ℤ, pos, negsuc}
 use Rattle.figures.specs.Kinds.{Outcome, value, refused}
 use Rattle.figures.specs.Whole.{whole}
 use Rattle.figures.specs.Hundredths.{hundredths}

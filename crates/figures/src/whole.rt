@@ -21,7 +21,7 @@ impl Figures for Whole {
 
     ghost means = { whole_value };
 
-    ghost counts = { Prim.search rules };
+    ghost counts = { λ n small. record { figure = pos n; given = Prim.search rules; nearest_is = refl } };
 
     ghost tells = { record {
       zero = pos 0;

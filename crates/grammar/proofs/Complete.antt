@@ -10,7 +10,7 @@ use Rattle.grammar.specs.declared.operator.Prefix.TheVariants.{Negation, Signed}
 use Rattle.grammar.specs.Tree.{Row, more, Exp, Variable, Statement, Program, prefixed, joined}
 use Rattle.grammar.specs.Classes.{heads, rank, prefix_rank, operand_rank, operator_token, prefix_token, the_mark, the_keyword, an_operator, found, opens, levels_after, prefix_of, operator_of, from_rank}
 use Rattle.grammar.specs.Grammar.{Part, ranked, factor, variable, identifier, bound, group, element, statement, item, exp, Phrase, a, row, program, separator, Tree, Value, Is, Derives, alone, another, a_name, a_whole, an_indexed, a_number, a_value, in_brackets, a_comparison, a_factor, an_operand, operated, after_prefix, a_single, a_progression, a_label, an_assignment, a_conditional, a_repetition, a_block, a_jump, a_switched_jump, an_input, a_print, a_stop, a_signed_bound, a_plain_bound, a_group, a_comment, integers, booleans, arrays, a_switch, an_action}
-use Rattle.grammar.specs.Parser.{begin, operators, rest, Script, done, word, either, part, goto, within, variable_factor, factor_script, prefix_script, behind_factor, operator_script, element_rest, row_rest, group_bounds, statement_script, statement_item, part_script, Around, nothing, waiting, at, met, meets, passes, if_found, after, moved, run, tree, initial, onward}
+use Rattle.grammar.specs.Parser.{begin, operators, rest, Script, done, either, part, goto, within, variable_factor, factor_script, prefix_script, behind_factor, operator_script, element_rest, row_rest, group_bounds, statement_script, statement_item, part_script, Around, nothing, waiting, at, met, meets, passes, if_found, after, moved, run, tree, initial, onward}
 use Rattle.grammar.proofs.Steps.{Fresh, within_moves, Leads, ◌then◌, alike, alike_on, handed_on, done_alike, part_waits, or_done, takes_word, takes_opening}
 use Rattle.grammar.proofs.Ranks.{rank_of, head_rank, NoSquare, Stops, separator_stops, rank_positive, rank_not_4, operator_again, operator_no_square, no_operator, same_operator, head_at_most_6}
 

@@ -6,8 +6,8 @@ use Rattle.figures.specs.Kinds.{Kind, Outcome, value, refused}
 use Rattle.rolls.specs.Contents.{HowItEnds, ends, damaged_at, Taken, took, refused as roll_refused, refused_at, first_of, rest_of, first as first_figure}
 use Rattle.meaning.specs.Names.{Names}
 use Rattle.meaning.specs.Expressions.{and_then, is_true, as_stored, at_distance, subscripted_cell}
-use Rattle.meaning.specs.Positions.{Loop, Position, end, at_assignment, at_go, at_switch, at_if, at_input, at_print, at_stop, at_element, at_addition, at_test, turn, enter, leave, next_print, destination}
-use Rattle.meaning.specs.Machine.{Memory, State, Fault, Next, at_end, next, faults, state, on_to, with_cell, with_rest_of_roll, with_posted, worked_out, received, post_if, post, variable_place, variable_name, figure_of, target, store, assign, from, increased, test_step, after_test, after_if, after_switch, step_at, step}
+use Rattle.meaning.specs.Positions.{Position, end, at_assignment, at_go, at_switch, at_if, at_input, at_print, at_stop, at_element, at_addition, at_test, turn, enter, leave, next_print, destination}
+use Rattle.meaning.specs.Machine.{Memory, State, Fault, Next, at_end, next, faults, state, on_to, with_cell, with_rest_of_roll, with_posted, worked_out, received, post_if, post, variable_place, variable_name, figure_of, target, store, assign, from, increased, test_step, after_test, after_if, after_switch, step_at}
 use Rattle.meaning.specs.Runs.{Steps, no_step, and_step}
 use Rattle.meaning.specs.Laws.{HasCell, the_first, an_element, BookGrows, RollShrinks, BookLaw, RollLaw}
 

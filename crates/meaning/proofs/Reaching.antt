@@ -8,7 +8,7 @@ use Rattle.rolls.specs.Contents.{first as first_figure}
 use Rattle.meaning.specs.Names.{Names}
 use Rattle.meaning.specs.Expressions.{and_then, is_true}
 use Rattle.meaning.specs.Positions.{Loop, Continuation, nothing, rest, turn, Position, end, at_assignment, at_go, at_switch, at_if, at_input, at_print, at_stop, at_element, at_addition, at_test, enter, leave, next_element, next_print, find, find_in_text, destination, kth, beginning}
-use Rattle.meaning.specs.Machine.{Memory, State, Next, next, state, on_to, worked_out, received, with_rest_of_roll, post, variable_place, variable_name, figure_of, target, store, assign, assign_control, from, increased, test_step, after_test, after_if, go_or_leave, after_switch, step_at, step}
+use Rattle.meaning.specs.Machine.{Memory, State, Next, next, state, on_to, worked_out, received, with_rest_of_roll, post, variable_place, variable_name, figure_of, target, store, assign, assign_control, from, increased, test_step, after_test, after_if, go_or_leave, after_switch, step_at}
 use Rattle.meaning.specs.Runs.{Steps, no_step, and_step}
 use Rattle.meaning.proofs.Changing.{worked, figure_received, same_next, end_is_no_next}
 

@@ -1,13 +1,13 @@
 -- Laws of the statement machine, in the words of those who rely on it, for every kind of figures, every table of names and
 -- every text. Rolls come in as what they mean, a list of figures and an ending.
 use Rattle.std.specs.Prelude.{◌≡◌, ℕ, suc, ◌+◌, ◌<◌, ◌≤◌, Bool, false, List, ◌++◌, length, Some, None, Option}
-use Rattle.grammar.specs.Tree.{Row, Name, Exp, Variable, Element, Statement, labelled, conditional, repeated, assigned, go, switched, input, sequence}
+use Rattle.grammar.specs.Tree.{Row, Name, Exp, Variable, Element, Statement, labelled, conditional, repeated, assigned, switched, input, sequence}
 use Rattle.figures.specs.Kinds.{Kind, value}
 use Rattle.symbols.specs.Jumps.{open_labels, is_among}
 use Rattle.rolls.specs.Contents.{Contents}
 use Rattle.meaning.specs.Names.{Names}
 use Rattle.meaning.specs.Expressions.{figure_in}
-use Rattle.meaning.specs.Positions.{Loop, Continuation, nothing, rest, turn, at_go, at_switch, enter, leave, kth}
+use Rattle.meaning.specs.Positions.{Loop, Continuation, rest, turn, at_go, at_switch, enter, leave, kth}
 use Rattle.meaning.specs.Machine.{Memory, State, Fault, next, faults, state, variable_name, figure_of, step}
 use Rattle.meaning.specs.Runs.{initial, Final, faulted, over, Steps, Finishes, advance}
 

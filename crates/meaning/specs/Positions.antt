@@ -2,7 +2,7 @@
 -- statement, from the inside out; that is where the list element in use of each for around it is kept.
 use Rattle.std.specs.Prelude.{ℕ, zero, suc, cond, List, [], ◌∷◌, ◌++◌, ℤ, pos, negsuc, Some, None, Option}
 use Rattle.std.specs.Str.{bytes_eq}
-use Rattle.grammar.specs.Tree.{Row, one, more, Name, Exp, Variable, whole, Element, single, progression, Statement, labelled, conditional, repeated, assigned, go, switched, input, printed, stop, sequence, Item, comment, integer, boolean, array, switch, action, Program}
+use Rattle.grammar.specs.Tree.{Row, one, more, Name, Exp, Variable, Element, single, progression, Statement, labelled, conditional, repeated, assigned, go, switched, input, printed, stop, sequence, Item, comment, integer, boolean, array, switch, action, Program}
 
 -- The first of a row, and those after it.
 abbrev pub first : {A : Type 0} → Row A → A

@@ -3,7 +3,7 @@ use Rattle.std.proofs.Common.{◌≡◌, ℕ, suc, ◌+◌, ◌-◌, ◌<◌, �
 use Rattle.words.specs.Token.{Token, Word}
 use Rattle.grammar.specs.Classes.{heads, Class, Content, opens}
 use Rattle.grammar.specs.Grammar.{Phrase, Value}
-use Rattle.grammar.specs.Parser.{Goal, Script, done, word, either, part, goto, Around, waiting, at, moved, finished, refused, run, start}
+use Rattle.grammar.specs.Parser.{Goal, Script, done, either, part, goto, Around, waiting, at, moved, finished, refused, run, start}
 use Rattle.grammar.proofs.Found.{none_some, token_of, found_to_is}
 use Rattle.grammar.proofs.Steps.{Fresh, alike, takes_word, takes_opening, handed_on, part_waits, or_done, done_alike}
 use Rattle.parser.specs.declared.node.Node.{Node}

@@ -5,7 +5,7 @@ use Rattle.words.specs.declared.token.Keyword.TheVariants.{Comment, Integer, Boo
 use Rattle.words.specs.Token.{Word}
 use Rattle.grammar.specs.declared.refusal.SentenceRefusal.TheVariants.{Unexpected}
 use Rattle.grammar.specs.Tree.{Program, comment, integer, boolean, array, switch, action}
-use Rattle.grammar.specs.Classes.{heads, the_mark, the_keyword, opens}
+use Rattle.grammar.specs.Classes.{heads, the_mark, the_keyword}
 use Rattle.grammar.specs.Grammar.{a, row, identifier, group, statement, item}
 use Rattle.grammar.specs.Parser.{begin, done, word, part, goto, item_script, names_script, arrays_script, switch_script, statement_item, nothing, at, run, tree, refused, parsed}
 use Rattle.parser.specs.declared.node.Node.TheVariants.{Comment as CommentNode, Integer as IntegerNode, Boolean as BooleanNode, Array as ArrayNode, Switch as SwitchNode}

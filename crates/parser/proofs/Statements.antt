@@ -3,7 +3,7 @@ use Rattle.std.proofs.Common.{◌≡◌, ℕ, ◌+◌, ◌<◌, true, List, [], 
 use Rattle.words.specs.declared.token.Mark.TheVariants.{Colon, Becomes, Into, OpenRound, CloseRound, OpenSquare, CloseSquare}
 use Rattle.words.specs.declared.token.Keyword.TheVariants.{Go, To, In, Print, Stop}
 use Rattle.words.specs.Token.{Word}
-use Rattle.grammar.specs.Tree.{Exp, whole, indexed, assigned, go, switched, input, printed, stop}
+use Rattle.grammar.specs.Tree.{Exp, whole, indexed, assigned, switched, input, printed, stop}
 use Rattle.grammar.specs.Classes.{heads, the_mark, the_keyword, a_name, found}
 use Rattle.grammar.specs.Grammar.{Phrase, a, row, exp, variable, statement}
 use Rattle.grammar.specs.Parser.{Script, begin, done, word, either, part, goto, named_script, indexed_assignment, jump_script, jump_rest, input_script, print_script}

@@ -4,7 +4,7 @@ use Rattle.words.specs.declared.token.Mark.{Mark}
 use Rattle.words.specs.Token.{Word}
 use Rattle.grammar.specs.Classes.{heads, Class, Content, the_mark, found, opens, levels_after}
 use Rattle.grammar.specs.Grammar.{Phrase, Value}
-use Rattle.grammar.specs.Parser.{Goal, Script, done, word, either, part, goto, Around, at, met, meets, after, moved, if_found, refuses, refused, run, onward, start, opened, then_ended, ended, ended_around, early_or, waiting}
+use Rattle.grammar.specs.Parser.{Goal, Script, done, word, either, part, goto, Around, at, met, meets, after, moved, if_found, refuses, run, onward, start, opened, then_ended, ended, ended_around, early_or, waiting}
 use Rattle.grammar.proofs.Found.{none_some, token_of}
 use Rattle.grammar.proofs.Steps.{Fresh, part_waits, handed_on}
 use Rattle.parser.specs.declared.refusal.Refusal.{Refusal}

@@ -6,7 +6,6 @@ use Rattle.words.specs.Records.{word_in}
 use Rattle.words.proofs.AcceptedWords.{words_of_to_accepted}
 use Rattle.words.proofs.WordByWord.{roomy_table_reads_all}
 use Rattle.grammar.specs.declared.refusal.SentenceRefusal.TheVariants.{TableTooShort}
-use Rattle.grammar.specs.Parser.{tree}
 use Rattle.grammar.specs.Refusal.{number as sentence_number}
 use Rattle.parser.specs.declared.table.Record.{Record}
 use Rattle.parser.specs.Records.{words}

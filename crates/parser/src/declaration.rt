@@ -82,8 +82,8 @@ impl Parser<'_> {
     {
         let mut all = self.group(levels)?;
         while self.take_mark(Mark::Comma) {
-            let next = self.group(levels)?;
-            all = self.make(Node::More(all, next));
+            let another = self.group(levels)?;
+            all = self.make(Node::More(all, another));
         }
         Ok(all)
     }

@@ -1,5 +1,5 @@
 -- Lines and columns. A line ends before its byte 10; lines and columns count from 1.
-use Rattle.std.specs.Prelude.{◌≡◌, ℕ, ◌+◌, ◌-◌, ◌<◌, ◌≤◌, min, cond, ◌⊎◌, List, [], ◌∷◌, length, take, drop, ◌==◌}
+use Rattle.std.specs.Prelude.{ℕ, ◌+◌, ◌-◌, min, cond, List, [], ◌∷◌, length, take, drop, ◌==◌}
 use Rattle.places.specs.declared.Location.{Location}
 
 -- How many lines some bytes end.

@@ -1,11 +1,11 @@
 -- Amounts: what the digits read say of a number, where the sign leads, and why no amount has a byte 10 inside.
-use Rattle.std.proofs.Common.{◌≡◌, ℕ, zero, suc, ◌+◌, ◌-◌, ◌*◌, ◌<◌, ◌≤◌, Bool, true, false, cond, ◌&&◌, eqb, leb, ◌⊎◌, List, [], ◌∷◌, ◌++◌, length, get_or, take, drop, ℤ, pos, neg_ℤ, Some, None, Option, sym, refl, ap, ◌∙◌, subst, ap₂, inl, inr, ⊎_elim, arith}
+use Rattle.std.proofs.Common.{◌≡◌, ℕ, zero, suc, ◌+◌, ◌-◌, ◌<◌, ◌≤◌, true, false, eqb, leb, List, [], ◌∷◌, ◌++◌, length, get_or, take, drop, ℤ, pos, neg_ℤ, Some, None, Option, sym, refl, ap, ◌∙◌, ap₂, ⊎_elim, arith}
 use Rattle.std.proofs.lemmas.List.{drop_more, take_all, take-append-drop}
 use Rattle.std.proofs.lemmas.Bool.{and_from, and_left, and_parts, and_right, cases_Bool, cases_lt, cond-false, cond-true, eq-eqb, eqb-true, le-leb, leb-true, lt-leb, ne_eqb}
 use Rattle.rolls.specs.Amounts.{amount, amount_figure, digits_number, has_point, in_hundredths, is_number}
 use Rattle.rolls.specs.Lines.{all_digits, digits_value, is_digit, no_end, signed_line, with_sign}
 use Rattle.rolls.specs.Text.{DigitsRead}
-use Rattle.rolls.proofs.FirstLine.{digits_no_end, no_end_append, not_end}
+use Rattle.rolls.proofs.FirstLine.{digits_no_end, no_end_append}
 use Rattle.rolls.proofs.WholeLines.{figure_no_end}
 
 -- One byte that is no digit: not all are.

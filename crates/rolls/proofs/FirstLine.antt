@@ -1,6 +1,6 @@
 -- The first line of a file whose bytes begin with digits: where it ends, and why it can be none.
-use Rattle.std.proofs.Common.{◌≡◌, ℕ, suc, ◌+◌, ◌<◌, ◌≤◌, Bool, true, false, cond, not, ◌&&◌, eqb, leb, ◌⊎◌, List, [], ◌∷◌, ◌++◌, length, Some, None, sym, refl, ap, ◌∙◌, subst, inl, inr, suc-le-suc, zero-le, arith}
-use Rattle.std.proofs.lemmas.Bool.{and_from, and_left, and_parts, and_right, cond-false, eqb-true, leb-true, lt-leb, ne_eqb, not-true}
+use Rattle.std.proofs.Common.{◌≡◌, ℕ, suc, ◌<◌, ◌≤◌, true, false, not, eqb, leb, List, [], ◌∷◌, ◌++◌, length, Some, None, sym, refl, ap, ◌∙◌, subst, suc-le-suc, zero-le, arith}
+use Rattle.std.proofs.lemmas.Bool.{and_from, and_left, and_parts, and_right, cond-false, leb-true, lt-leb, ne_eqb, not-true}
 use Rattle.rolls.specs.Lines.{File, all_digits, digits_value, file_of, is_digit, is_magnitude, magnitude, no_end, onto, onto_first}
 use Rattle.rolls.specs.Text.{first_magnitude}
 

@@ -1,8 +1,8 @@
 -- What the digits read from a place say of the first line there: each outcome of the reader, in the words of the rule.
-use Rattle.std.proofs.Common.{◌≡◌, ℕ, ◌+◌, ◌-◌, ◌<◌, ◌≤◌, true, false, cond, ◌&&◌, leb, ◌⊎◌, List, [], ◌∷◌, ◌++◌, length, get_or, take, drop, Some, None, sym, refl, ap, ◌∙◌, subst, inl, inr, ⊎_elim, arith}
+use Rattle.std.proofs.Common.{◌≡◌, ℕ, ◌+◌, ◌-◌, ◌<◌, ◌≤◌, true, leb, List, ◌∷◌, ◌++◌, length, get_or, take, drop, Some, None, sym, refl, ap, ◌∙◌, ⊎_elim, arith}
 use Rattle.std.proofs.lemmas.List.{append-nil, drop_all, drop-drop, drop_more, length-drop, length-take-le, take-append-drop}
 use Rattle.std.proofs.lemmas.Bool.{and_from, cases_lt, cond-true, le-leb, ne_eqb}
-use Rattle.rolls.specs.Lines.{File, all_digits, digits_value, file_of, is_magnitude, magnitude}
+use Rattle.rolls.specs.Lines.{all_digits, digits_value, file_of, is_magnitude}
 use Rattle.rolls.specs.Text.{DigitsRead, MagnitudeLine, first_magnitude}
 use Rattle.rolls.proofs.FirstLine.{digits_no_end, eleventh_byte_none, empty_none, large_none, other_byte_none, row_and_end, unended_alone}
 

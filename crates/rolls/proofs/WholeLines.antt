@@ -1,8 +1,8 @@
 -- Files as whole lines: what a file's lines and its unended rest have to do with its bytes, and what reading makes of them.
-use Rattle.std.proofs.Common.{◌≡◌, ℕ, suc, ◌+◌, ◌^◌, ◌<◌, ◌≤◌, Bool, true, false, cond, not, ◌&&◌, eqb, leb, ◌⊎◌, List, [], ◌∷◌, ◌++◌, map, length, ℤ, pos, negsuc, neg_ℤ, Some, None, Option, sym, refl, ap, ◌∙◌, subst, ap₂, inl, inr, ⊎_elim, append_assoc, arith, length-append, rules}
-use Rattle.std.proofs.lemmas.Bool.{and_from, and_parts, cases_Bool, cond-false, cond-true, eqb-true, leb-true, ne_eqb}
-use Rattle.rolls.specs.Contents.{Contents, all_of, damaged_at, ends}
-use Rattle.rolls.specs.Lines.{File, all_digits, before, digits_value, file_of, is_digit, is_magnitude, magnitude, no_end, onto, onto_first, read_as, read_lines, signed_line, with_sign}
+use Rattle.std.proofs.Common.{◌≡◌, ℕ, suc, ◌+◌, true, false, not, ◌&&◌, eqb, ◌⊎◌, List, [], ◌∷◌, ◌++◌, length, ℤ, pos, neg_ℤ, Some, None, Option, sym, refl, ap, ◌∙◌, subst, ap₂, inl, inr, ⊎_elim, append_assoc, arith, length-append}
+use Rattle.std.proofs.lemmas.Bool.{and_parts, cases_Bool, cond-false, cond-true, eqb-true, ne_eqb}
+use Rattle.rolls.specs.Contents.{Contents, damaged_at}
+use Rattle.rolls.specs.Lines.{File, all_digits, before, digits_value, file_of, is_magnitude, magnitude, no_end, onto_first, read_as, read_lines, signed_line, with_sign}
 use Rattle.rolls.proofs.FirstLine.{digits_no_end, not_end}
 use Rattle.rolls.specs.Reading.{EndsAt, NoFigureLine, Reading, at_damage, at_end, with_ends}
 

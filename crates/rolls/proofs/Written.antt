@@ -1,12 +1,12 @@
 -- A list of figures that is written one a line is read back.
-use Rattle.std.proofs.Common.{◌≡◌, ℕ, suc, ◌+◌, ◌^◌, ◌<◌, ◌≤◌, Bool, true, false, ◌&&◌, leb, List, [], ◌∷◌, ◌++◌, map, length, ℤ, pos, negsuc, neg_ℤ, ◌≤ℤ◌, Some, None, decimal, Option, sym, refl, ap, ◌∙◌, ap₂, arith, leb→le}
+use Rattle.std.proofs.Common.{◌≡◌, ℕ, suc, ◌+◌, ◌^◌, ◌<◌, ◌≤◌, true, leb, List, [], ◌∷◌, map, length, ℤ, pos, negsuc, neg_ℤ, ◌≤ℤ◌, Some, None, decimal, Option, refl, ap, ◌∙◌, ap₂, arith, leb→le}
 use Rattle.std.proofs.lemmas.Fmt.{decimal_nonempty, digits_decimal, length-decimal-le, digits_value-decimal}
 use Rattle.std.proofs.lemmas.Bool.{and_from, cond-true, le-leb}
 use Rattle.std.specs.Fmt.{signed_decimal}
 use Rattle.figures.specs.Range.{low, high}
 use Rattle.rolls.specs.Contents.{all_of}
-use Rattle.rolls.specs.Lines.{File, all_digits, before, digits_value, file_of, is_magnitude, line_figure, magnitude, no_end, read_as, read_lines, with_sign}
-use Rattle.rolls.specs.Reading.{InRange, ReadsBack, with_ends, written}
+use Rattle.rolls.specs.Lines.{all_digits, before, digits_value, file_of, is_magnitude, line_figure, magnitude, no_end, read_as, read_lines, with_sign}
+use Rattle.rolls.specs.Reading.{InRange, ReadsBack, written}
 use Rattle.rolls.proofs.Digits.{own}
 use Rattle.rolls.proofs.FirstLine.{row_and_end}
 use Rattle.rolls.proofs.Signs.{magnitude_figure}

@@ -1,7 +1,7 @@
 -- The amounts file: figures in hundredths, one a line. A line is an optional minus sign, 1 to 10 digits, and then nothing
 -- or a point and two digits; its value is within ±2,000,000,000 hundredths. Lines, damage and ending are those of every
 -- roll file.
-use Rattle.std.specs.Prelude.{◌≡◌, ℕ, suc, ◌+◌, ◌-◌, ◌*◌, ◌/◌, ◌%◌, ◌<◌, ◌≤◌, Bool, true, false, cond, ◌&&◌, List, [], ◌∷◌, ◌++◌, map, length, take, drop, ℤ, pos, negsuc, Some, None, decimal, Option, ◌==◌, nat_le, slice_index, slice_index_or, slice_range}
+use Rattle.std.specs.Prelude.{◌≡◌, ℕ, suc, ◌+◌, ◌-◌, ◌*◌, ◌/◌, ◌%◌, ◌<◌, ◌≤◌, Bool, true, cond, ◌&&◌, List, [], ◌∷◌, ◌++◌, map, length, take, drop, ℤ, pos, negsuc, Some, None, decimal, Option, ◌==◌, nat_le, slice_index, slice_index_or, slice_range}
 use Rattle.figures.specs.declared.hundredths.Hundredths.{Hundredths}
 use Rattle.rolls.specs.Contents.{Contents}
 use Rattle.rolls.specs.Lines.{all_digits, digits_value, no_end, read_as, signed_line}

@@ -4,7 +4,7 @@ use Rattle.figures.specs.Kinds.{stands_for_zero}
 use Rattle.figures.specs.Whole.{whole, whole_value}
 use Rattle.figures.specs.declared.whole.Whole.{Whole}
 use Rattle.rolls.specs.Amounts.{read_amounts}
-use Rattle.rolls.specs.Contents.{Contents, all_of, damaged_at, ends}
+use Rattle.rolls.specs.Contents.{Contents, all_of, damaged_at}
 use Rattle.rolls.specs.Groups.{kept}
 use Rattle.rolls.specs.Lines.{read_from}
 use Rattle.rolls.specs.Text.{whole_figure}

@@ -1,5 +1,5 @@
 -- What a roll means: a finite list of figures and an ending. Taking hands over the first figure and leaves the rest.
-use Rattle.std.specs.Prelude.{ℕ, List, [], ◌∷◌, map}
+use Rattle.std.specs.Prelude.{ℕ, List, [], ◌∷◌}
 
 pub data HowItEnds : Type 0 where
   ends : HowItEnds

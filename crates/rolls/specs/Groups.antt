@@ -1,6 +1,6 @@
 -- The leaver filter: the roll is parted into groups of g figures, the last perhaps shorter; a group whose first figure is
 -- zero stands for someone who has left, and is dropped whole. The other groups are kept, in order.
-use Rattle.std.specs.Prelude.{◌≡◌, ℕ, zero, suc, ◌≤◌, Bool, true, false, cond, List, [], ◌∷◌, ◌++◌, length, take, drop, Ok, Err, Result}
+use Rattle.std.specs.Prelude.{◌≡◌, ℕ, zero, suc, ◌≤◌, Bool, cond, List, [], ◌∷◌, ◌++◌, length, take, drop, Ok, Err, Result}
 use Rattle.rolls.specs.Contents.{Contents}
 
 module _ {F : Type 0} where

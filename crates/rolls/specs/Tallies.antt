@@ -1,5 +1,5 @@
 -- The total of a list of figures: from of(0) on, one figure after the other; the first refusal stays.
-use Rattle.std.specs.Prelude.{ℕ, List, [], ◌∷◌, map}
+use Rattle.std.specs.Prelude.{List, [], ◌∷◌}
 use Rattle.figures.specs.Kinds.{Kind, Outcome, value, refused}
 
 module _ {V : Type 0} (kind : Kind V) where

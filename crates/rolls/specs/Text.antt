@@ -1,5 +1,5 @@
 -- The text roll: whole figures read from a file's bytes where they are.
-use Rattle.std.specs.Prelude.{◌≡◌, ℕ, ◌+◌, ◌-◌, ◌<◌, ◌≤◌, true, false, List, [], ◌∷◌, map, length, drop, ℤ, Some, None, Option, slice_index, slice_range}
+use Rattle.std.specs.Prelude.{◌≡◌, ℕ, ◌+◌, ◌<◌, ◌≤◌, true, false, List, [], ◌∷◌, map, length, drop, ℤ, Some, None, Option, slice_index, slice_range}
 use Rattle.figures.specs.declared.whole.Whole.{Whole}
 use Rattle.rolls.specs.declared.text.Line.{Line}
 use Rattle.rolls.specs.Contents.{Contents, damaged_at}

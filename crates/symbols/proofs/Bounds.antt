@@ -1,5 +1,5 @@
 -- The bounds of the arrays of a tree that keeps rule 11.
-use Rattle.std.proofs.Common.{◌≡◌, ℕ, zero, suc, ◌+◌, ◌-◌, ◌≤◌, Bool, true, false, cond, not, ◌&&◌, T, ltb, leb, List, [], ◌∷◌, ◌++◌, ℤ, pos, negsuc, ◌+ℤ◌, ◌-ℤ◌, ◌≤ℤ◌, sym, refl, ap, ◌∙◌, subst, arith}
+use Rattle.std.proofs.Common.{◌≡◌, ℕ, zero, suc, ◌-◌, ◌≤◌, Bool, true, false, not, ◌&&◌, T, leb, List, [], ◌∷◌, ◌++◌, ℤ, pos, negsuc, ◌+ℤ◌, ◌-ℤ◌, refl, subst, arith}
 use lib.IntN.{sub_ℕ}
 use lib.Signed.{le_z, le_z_yes}
 use Rattle.std.specs.List.{AllByRecursion as All}
@@ -9,8 +9,8 @@ use Rattle.grammar.specs.Tree.{Row, one, more, Name, Exp, literal, simple, subsc
 use Rattle.symbols.specs.declared.value_type.ValueType.TheVariants.{Integer, Boolean}
 use Rattle.symbols.specs.declared.refusal.NameRefusal.TheVariants.{WrongBounds}
 use Rattle.symbols.specs.Occurrences.{Role, as_label, as_switch, as_array, of_type, in_switch, as_target, as_selector, as_variable, as_element, Occurrence, at, all_at, each, in_exp, in_element, in_statement, in_group, in_item, occurrences}
-use Rattle.symbols.specs.Symbols.{an_array, bound_value, extent, cells}
-use Rattle.symbols.specs.Rules.{bounds_ok, group_bounds, item_bounds, wrong_bounds, accepted, verdict}
+use Rattle.symbols.specs.Symbols.{bound_value, extent}
+use Rattle.symbols.specs.Rules.{bounds_ok, group_bounds, item_bounds, accepted, verdict}
 use Rattle.symbols.specs.Laws.{In, here, later, BoundsInRange}
 use Rattle.symbols.proofs.Offences.{empty_left, empty_right, nothing_told, accepted_to_keeps_all}
 

@@ -1,10 +1,10 @@
 -- The names of a phrase's words are those of its tree, in their order: by induction on the derivation.
-use Rattle.std.proofs.Common.{◌≡◌, ℕ, List, [], ◌∷◌, ◌++◌, map, sym, refl, ap, ◌∙◌, append_assoc, append-nil}
+use Rattle.std.proofs.Common.{◌≡◌, ℕ, List, [], ◌∷◌, ◌++◌, sym, refl, ap, ◌∙◌, append_assoc, append-nil}
 use Rattle.std.proofs.lemmas.List.{map-append}
-use Rattle.words.specs.declared.token.Mark.TheVariants.{Semicolon, Colon, Becomes, Into, Comma, OpenRound, CloseRound, OpenSquare, CloseSquare}
+use Rattle.words.specs.declared.token.Mark.TheVariants.{Semicolon, Colon, Becomes, Into, OpenRound, CloseRound, OpenSquare, CloseSquare}
 use Rattle.words.specs.declared.token.Keyword.TheVariants.{Begin, End, If, For, Go, To, Switch, Array, Comment, In, Print, Stop}
 use Rattle.words.specs.declared.token.Keyword.TheVariants.{Integer as IntegerWord, Boolean as BooleanWord}
-use Rattle.words.specs.Token.{Token, Word, name, number, keyword, mark, sign, scaling, relation}
+use Rattle.words.specs.Token.{Token, Word, name, number, keyword, mark, sign, relation}
 use Rattle.grammar.specs.declared.operator.Operator.{Operator}
 use Rattle.grammar.specs.declared.operator.Operator.TheVariants.{Equivalence, Disjunction, Conjunction, Additive, Multiplicative}
 use Rattle.grammar.specs.declared.operator.Prefix.{Prefix}

@@ -1,19 +1,17 @@
 -- The fors around labels and go tos, in a tree that keeps the rules.
-use Rattle.std.proofs.Common.{◌≡◌, ℕ, Bool, true, false, cond, not, ◌&&◌, ◌||◌, ◌⊎◌, List, [], ◌∷◌, ◌++◌, map, sym, refl, ap, ◌∙◌, subst, ap₂, inl, inr, append_assoc, append-nil, arith}
+use Rattle.std.proofs.Common.{◌≡◌, ℕ, Bool, true, false, not, ◌||◌, ◌⊎◌, List, [], ◌∷◌, ◌++◌, sym, refl, ap, subst, inl, inr}
 use Rattle.std.specs.Str.{bytes_eq}
-use Rattle.std.proofs.lemmas.List.{map-append}
-use Rattle.std.proofs.lemmas.Bool.{both_ways, or_cases, or_parts, and_cases, not-false, cases_Bool}
-use Rattle.grammar.specs.Tree.{Row, one, more, Name, Exp, literal, simple, subscripted, prefixed, joined, bracketed, compared, value_of, Element, single, progression, Statement, labelled, conditional, repeated, assigned, go, switched, input, printed, stop, sequence, Item, comment, integer, boolean, array, switch, action, Group, Program}
-use Rattle.symbols.specs.declared.value_type.ValueType.TheVariants.{Integer, Boolean}
+use Rattle.std.proofs.lemmas.Bool.{both_ways, or_parts, and_cases, not-false}
+use Rattle.grammar.specs.Tree.{Row, one, more, Name, Statement, labelled, conditional, repeated, assigned, go, switched, input, printed, stop, sequence, Item, comment, integer, boolean, array, switch, action, Program}
 use Rattle.symbols.specs.declared.refusal.NameRefusal.TheVariants.{JumpIntoFor}
-use Rattle.symbols.specs.Occurrences.{Role, as_label, as_switch, as_array, of_type, in_switch, as_target, as_selector, as_variable, as_element, Occurrence, at, all_at, each, in_exp, in_element, in_statement, in_group, in_item, occurrences}
-use Rattle.symbols.specs.Symbols.{Kind, a_label, a_switch, an_array, a_variable, definition, Symbol, symbols, kind_in}
+use Rattle.symbols.specs.Occurrences.{as_target, as_selector, Occurrence, at, each, in_exp, in_element, in_statement, in_item, occurrences}
+use Rattle.symbols.specs.Symbols.{Kind, a_label, a_switch, definition, Symbol, symbols, kind_in}
 use Rattle.symbols.specs.Types.{told}
-use Rattle.symbols.specs.Jumps.{open_labels, item_labels, outer_labels, is_among, is_label, leads_inside, some_name, switch_leads, jump_offences, item_jumps, wrong_jumps}
+use Rattle.symbols.specs.Jumps.{open_labels, item_labels, outer_labels, is_among, is_label, leads_inside, some_name, switch_leads, jump_offences, item_jumps}
 use Rattle.symbols.specs.Rules.{is_switch, suits, accepted, verdict}
-use Rattle.symbols.specs.Laws.{In, here, later, Twice, Says}
+use Rattle.symbols.specs.Laws.{In, here, later}
 use Rattle.symbols.specs.ForsAround.{Label, labels_in, Jump, jumps_in, of_statement, labels, jumps, Leads, straight, by_switch, AllAround}
-use Rattle.symbols.proofs.Lists.{in_middle, in_left, in_right, Split, in_to_split}
+use Rattle.symbols.proofs.Lists.{in_left, in_right}
 use Rattle.symbols.proofs.Offences.{empty_left, empty_right, nothing_told, by_place, accepted_to_keeps_all}
 use Rattle.symbols.proofs.Table.{same_to_}
 use Rattle.symbols.proofs.Names.{names_agree}

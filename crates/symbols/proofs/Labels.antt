@@ -1,14 +1,14 @@
 -- The labels of a tree and the occurrences that define them: the same letters in the same order, so that in a tree with
 -- no second definition no two labels have the same letters.
-use Rattle.std.proofs.Common.{◌≡◌, ℕ, Bool, true, false, ◌⊎◌, List, [], ◌∷◌, ◌++◌, map, sym, refl, ap, ◌∙◌, subst, ap₂, inl, inr, append_assoc, append-nil}
+use Rattle.std.proofs.Common.{◌≡◌, ℕ, true, ◌⊎◌, List, [], ◌∷◌, ◌++◌, map, sym, refl, ap, ◌∙◌, subst, ap₂, inl, inr, append_assoc, append-nil}
 use Rattle.std.proofs.lemmas.List.{map-append}
-use Rattle.grammar.specs.Tree.{Row, one, more, Name, Exp, literal, simple, subscripted, prefixed, joined, bracketed, compared, value_of, Element, single, progression, Statement, labelled, conditional, repeated, assigned, go, switched, input, printed, stop, sequence, Item, comment, integer, boolean, array, switch, action, Group, Program}
+use Rattle.grammar.specs.Tree.{Row, one, more, Name, Exp, literal, simple, subscripted, prefixed, joined, bracketed, compared, value_of, Element, single, progression, Statement, labelled, conditional, repeated, assigned, go, switched, input, printed, stop, sequence, Item, comment, integer, boolean, array, switch, action}
 use Rattle.symbols.specs.declared.value_type.ValueType.TheVariants.{Integer, Boolean}
-use Rattle.symbols.specs.Occurrences.{Role, as_label, as_switch, as_array, of_type, in_switch, as_target, as_selector, as_variable, as_element, Occurrence, at, all_at, each, in_exp, in_element, in_statement, in_group, in_item, occurrences}
+use Rattle.symbols.specs.Occurrences.{Role, as_label, as_switch, as_array, of_type, in_switch, as_target, as_selector, as_variable, as_element, Occurrence, at, all_at, each, in_exp, in_element, in_statement, in_group, in_item}
 use Rattle.symbols.specs.Symbols.{definition}
 use Rattle.symbols.specs.Rules.{is_some}
 use Rattle.symbols.specs.Laws.{In, here, later, Twice, Says}
-use Rattle.symbols.specs.ForsAround.{Label, labels_in, of_statement, labels}
+use Rattle.symbols.specs.ForsAround.{Label, labels_in, of_statement}
 use Rattle.symbols.proofs.Lists.{Split, in_to_split}
 
 -- The letters that occurrences define as labels.

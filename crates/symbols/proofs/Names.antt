@@ -1,16 +1,16 @@
 -- Definitions, types and uses of names in a tree that keeps the rules.
-use Rattle.std.proofs.Common.{◌≡◌, ℕ, Bool, true, false, cond, not, ◌||◌, List, [], ◌∷◌, ◌++◌, Some, None, Option, sym, refl, ap, ◌∙◌, subst, append_assoc, append-nil, arith}
+use Rattle.std.proofs.Common.{◌≡◌, ℕ, Bool, true, false, cond, not, List, [], ◌∷◌, ◌++◌, Some, None, Option, sym, refl, ap, ◌∙◌, subst, append_assoc, append-nil}
 use Rattle.std.specs.Str.{bytes_eq}
 use Rattle.std.proofs.lemmas.Bool.{both_ways, or_parts, not-false}
-use Rattle.grammar.specs.Tree.{Name, Program}
+use Rattle.grammar.specs.Tree.{Program}
 use Rattle.symbols.specs.declared.value_type.ValueType.{ValueType}
 use Rattle.symbols.specs.declared.refusal.NameRefusal.TheVariants.{SecondDefinition, MisusedName}
 use Rattle.symbols.specs.Occurrences.{Role, as_label, as_switch, as_array, of_type, in_switch, as_target, as_selector, as_variable, as_element, Occurrence, occurrences}
-use Rattle.symbols.specs.Symbols.{Kind, definition, declared_type, or_else, first_said, or_variable, or_untyped, Symbol, symbols, kind_of, type_of, kind_in, type_in}
+use Rattle.symbols.specs.Symbols.{Kind, definition, declared_type, or_else, first_said, or_variable, or_untyped, Symbol, symbols, kind_of, type_of, kind_in}
 use Rattle.symbols.specs.Types.{told}
 use Rattle.symbols.specs.Rules.{is_some, is_defined, is_typed, target, is_target, defines_again, second_definitions, suits, misused_names, accepted, verdict}
 use Rattle.symbols.specs.Laws.{In, here, later, Twice, Says, NamesAgree}
-use Rattle.symbols.proofs.Lists.{in_middle, Split, in_to_split}
+use Rattle.symbols.proofs.Lists.{Split, in_to_split}
 use Rattle.symbols.proofs.Offences.{empty_left, empty_right, nothing_told, accepted_to_keeps_all}
 use Rattle.symbols.proofs.Table.{→same, name_said}
 

@@ -1,12 +1,12 @@
 -- Lists of offences: when they are empty, and which is the earliest.
-use Rattle.std.proofs.Common.{◌≡◌, ℕ, suc, ◌+◌, ◌<◌, ◌≤◌, min, Bool, true, false, cond, ◌⊎◌, List, [], ◌∷◌, ◌++◌, sym, refl, ap, ◌∙◌, subst, inl, inr, arith}
+use Rattle.std.proofs.Common.{◌≡◌, ℕ, suc, ◌<◌, ◌≤◌, min, Bool, true, false, ◌⊎◌, List, [], ◌∷◌, ◌++◌, sym, refl, subst, inl, inr, arith}
 use Rattle.std.proofs.lemmas.Bool.{cases_lt}
 use Rattle.grammar.specs.Tree.{Program}
 use Rattle.symbols.specs.declared.refusal.NameRefusal.{NameRefusal}
 use Rattle.symbols.specs.declared.refusal.NameRefusal.TheVariants.{SecondDefinition, MisusedName, WrongType, JumpIntoFor, WrongBounds, TooManyCells}
 use Rattle.symbols.specs.Refusal.{number}
 use Rattle.symbols.specs.Types.{told}
-use Rattle.symbols.specs.Rules.{offences, Verdict, accepted, refused, earliest, or_next, first_broken, rules, verdict}
+use Rattle.symbols.specs.Rules.{offences, accepted, refused, earliest, or_next, first_broken, rules, verdict}
 use Rattle.symbols.specs.Laws.{In, here, later, FirstBroken, KeepsAll}
 
 -- Where two lists together are empty, both are.

@@ -1,5 +1,5 @@
 -- The answer for a text is told rightly: the laws of words, sentences and names, one behind the other.
-use Rattle.std.proofs.Common.{◌≡◌, ℕ, ◌-◌, List, length, refl, subst, arith}
+use Rattle.std.proofs.Common.{◌≡◌, ℕ, ◌-◌, List, length, refl, arith}
 use Rattle.words.specs.Token.{Word}
 use Rattle.words.specs.Words.{Words, words, refused as words_refused, words_of}
 use Rattle.words.specs.Reading.{Reads}

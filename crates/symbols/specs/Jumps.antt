@@ -1,7 +1,7 @@
 -- The rule that no go to leads into a for's body from outside. A go to sees the labels that stand in the bodies of the
 -- fors around it or outside all fors, and not in a body further in; a label that it does not see stands in the body of
 -- a for that is not around it.
-use Rattle.std.specs.Prelude.{ℕ, Bool, true, false, cond, not, ◌&&◌, ◌||◌, List, [], ◌∷◌, ◌++◌}
+use Rattle.std.specs.Prelude.{ℕ, Bool, true, false, not, ◌&&◌, ◌||◌, List, [], ◌∷◌, ◌++◌}
 use Rattle.std.specs.Str.{bytes_eq}
 use Rattle.grammar.specs.Tree.{Row, one, more, Name, Statement, labelled, conditional, repeated, assigned, go, switched, input, printed, stop, sequence, Item, comment, integer, boolean, array, switch, action, Program}
 use Rattle.symbols.specs.Occurrences.{each}

@@ -1,13 +1,13 @@
 -- What the answer for a tree means, in words that do not speak of how it is computed: that a refusal is the least broken
 -- rule at its earliest place, and what an accepted tree has.
-use Rattle.std.specs.Prelude.{◌≡◌, ℕ, ◌+◌, ◌<◌, ◌≤◌, Bool, true, List, [], ◌∷◌, ◌++◌, pos, ◌+ℤ◌, ◌-ℤ◌, ◌≤ℤ◌, Some, None, Option, ◌≢◌}
+use Rattle.std.specs.Prelude.{◌≡◌, ℕ, ◌+◌, ◌<◌, ◌≤◌, true, List, [], ◌∷◌, ◌++◌, pos, ◌+ℤ◌, ◌-ℤ◌, ◌≤ℤ◌, Some, Option, ◌≢◌}
 use Rattle.grammar.specs.Tree.{Bound, Program}
 use Rattle.symbols.specs.declared.value_type.ValueType.{ValueType}
 use Rattle.symbols.specs.declared.refusal.NameRefusal.{NameRefusal}
 use Rattle.symbols.specs.Refusal.{number}
 use Rattle.symbols.specs.Occurrences.{Role, as_array, Occurrence, occurrences}
 use Rattle.symbols.specs.Symbols.{Kind, an_array, definition, declared_type, bound_value, cells, Symbol, count, symbols, kind_in, type_in, named_cells, hidden_cells}
-use Rattle.symbols.specs.Rules.{target, is_some, suits, offences, Verdict, accepted, refused, verdict}
+use Rattle.symbols.specs.Rules.{target, is_some, suits, offences, accepted, refused, verdict}
 
 -- x stands in a list.
 pub data In {A : Type 0} (x : A) : List A → Type 0 where

@@ -1,7 +1,7 @@
 -- Where names stand in a text, and as what: the tree is gone through once, in the order of the text, and every rule on
 -- names looks at the list that comes of it. A reader must believe the roles and, clause by clause, the order.
 use Rattle.std.specs.Prelude.{ℕ, List, [], ◌∷◌, ◌++◌}
-use Rattle.grammar.specs.Tree.{Row, one, more, Name, Exp, literal, simple, subscripted, prefixed, joined, bracketed, compared, Variable, value_of, Element, single, progression, Statement, labelled, conditional, repeated, assigned, go, switched, input, printed, stop, sequence, Bound, Group, Item, comment, integer, boolean, array, switch, action, Program}
+use Rattle.grammar.specs.Tree.{Row, one, more, Name, Exp, literal, simple, subscripted, prefixed, joined, bracketed, compared, value_of, Element, single, progression, Statement, labelled, conditional, repeated, assigned, go, switched, input, printed, stop, sequence, Bound, Group, Item, comment, integer, boolean, array, switch, action, Program}
 use Rattle.symbols.specs.declared.value_type.ValueType.{ValueType}
 use Rattle.symbols.specs.declared.value_type.ValueType.TheVariants.{Integer, Boolean}
 

@@ -1,7 +1,7 @@
 -- The rules on names and cells, each as the list of its offences by their places, and the answer for a tree: the rule
 -- of the least number that is broken, told at its earliest offence. Rules 9 and 10 stand in files of their own.
-use Rattle.std.specs.Prelude.{ℕ, ◌+◌, min, Bool, true, false, cond, not, ◌&&◌, ◌||◌, List, [], ◌∷◌, ◌++◌, map, Some, None, Option, int_le, nat_le, nat_lt}
-use Rattle.grammar.specs.Tree.{Name, Bound, Group, Item, comment, integer, boolean, array, switch, action, Program}
+use Rattle.std.specs.Prelude.{ℕ, ◌+◌, min, Bool, true, false, not, ◌&&◌, ◌||◌, List, [], ◌∷◌, ◌++◌, map, Some, None, Option, int_le, nat_le, nat_lt}
+use Rattle.grammar.specs.Tree.{Bound, Group, Item, comment, integer, boolean, array, switch, action, Program}
 use Rattle.symbols.specs.declared.refusal.NameRefusal.{NameRefusal}
 use Rattle.symbols.specs.declared.refusal.NameRefusal.TheVariants.{SecondDefinition, MisusedName, WrongType, JumpIntoFor, WrongBounds, TooManyCells}
 use Rattle.symbols.specs.Occurrences.{Role, as_label, as_switch, as_array, of_type, in_switch, as_target, as_selector, as_variable, as_element, Occurrence, each, occurrences, fors}

@@ -1,5 +1,5 @@
 -- What holds of the words of an accepted text, by induction along the cutting.
-use Rattle.std.proofs.Common.{◌≡◌, ℕ, zero, suc, ◌+◌, ◌-◌, ◌*◌, ◌^◌, ◌<◌, ◌≤◌, true, false, List, [], ◌∷◌, ◌++◌, length, drop, sym, refl, ap, ◌∙◌, subst, arith, drop-drop}
+use Rattle.std.proofs.Common.{◌≡◌, ℕ, suc, ◌+◌, ◌-◌, ◌*◌, ◌^◌, ◌<◌, ◌≤◌, true, List, [], ◌∷◌, ◌++◌, length, drop, sym, refl, ap, ◌∙◌, subst, arith, drop-drop}
 use native.Mathlib.Nat.{pow-le-pow_right}
 use Rattle.std.specs.List.{AllByRecursion as All}
 use Rattle.std.specs.Char.{is_ascii_digit}
@@ -7,8 +7,8 @@ use Rattle.std.proofs.lemmas.List.{drop_at, length-append}
 use Rattle.std.proofs.lemmas.Bool.{true≢false}
 use Rattle.words.specs.Token.{Token, Word, name, number, keyword, mark, sign, scaling, relation}
 use Rattle.words.specs.Spelling.{reserved_words, marks, MadeOf, value_after, value_of}
-use Rattle.words.specs.Words.{Words, words, refused, short, words_of}
-use Rattle.words.specs.Reading.{Spells, a_reserved_word, a_name, a_number, a_mark, Longest, Short, Cuts, here, gap, cut, ReadsFrom, to_the_end, to_a_fault, Reads, text_too_long, text_read, Ascending, WithinBounds, Accepted}
+use Rattle.words.specs.Words.{words, short, words_of}
+use Rattle.words.specs.Reading.{Spells, a_reserved_word, a_name, a_number, a_mark, Longest, Short, Cuts, here, gap, cut, to_the_end, Reads, text_read, Ascending, WithinBounds, Accepted}
 use Rattle.words.proofs.Tables.{every_to_all}
 use Rattle.words.proofs.Digits.{digit_to_range, ten_to_next}
 use Rattle.words.proofs.Spelled.{entry_has, no_empty_spelling}

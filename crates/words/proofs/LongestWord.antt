@@ -1,17 +1,16 @@
 -- The longest word at some bytes: what the definition finds there is the longest spelling, and it finds one where there is one.
-use Rattle.std.proofs.Common.{◌≡◌, ℕ, suc, ◌+◌, ◌<◌, ◌≤◌, Bool, true, false, cond, ◌&&◌, eqb, leb, ◌⊎◌, List, [], ◌∷◌, ◌++◌, length, take, drop, sym, refl, ap, ◌∙◌, subst, inl, inr, one-add, arith}
+use Rattle.std.proofs.Common.{◌≡◌, ℕ, suc, ◌+◌, ◌≤◌, Bool, true, false, cond, ◌&&◌, eqb, leb, List, [], ◌∷◌, ◌++◌, length, take, drop, sym, refl, ap, ◌∙◌, subst, inl, inr, one-add, arith}
 use Rattle.std.specs.List.{prefix_len, AllByRecursion as All}
 use Rattle.std.specs.Char.{is_ascii_digit, is_ascii_alphanumeric, is_ascii_alphabetic}
-use Rattle.std.proofs.lemmas.List.{take-append-drop, length-take-le, take_at, length-append}
+use Rattle.std.proofs.lemmas.List.{take-append-drop, length-take-le, take_at}
 use Rattle.std.proofs.lemmas.List.Sums.{prefix_len-le-length}
-use Rattle.std.proofs.lemmas.Bool.{and_parts, leb-true, eq-eqb, eqb-true, cond-true, cond-false, both_ways, true≢false}
-use Rattle.words.specs.Token.{Token, name, number}
-use Rattle.words.specs.Spelling.{Fixed, marks, begins, blank, MadeOf, value_of}
+use Rattle.std.proofs.lemmas.Bool.{and_parts, leb-true, eq-eqb, eqb-true, cond-true, both_ways, true≢false}
+use Rattle.words.specs.Token.{Token, number}
+use Rattle.words.specs.Spelling.{Fixed, marks, begins, MadeOf, value_of}
 use Rattle.words.specs.Words.{Found, found, nothing, first_of, mark_at, name_at, number_at, name_token, longest_at}
 use Rattle.words.specs.Reading.{Entry, Spells, a_number, a_mark, Prefix, Longest}
 use Rattle.words.proofs.Tables.{every, every_to_all}
 use Rattle.words.proofs.OneWord.{leading_made_of, letter_to_alnum}
-use Rattle.words.proofs.NextWord.{letter_to_longest_is_name, digit_to_longest_is_number, other_to_longest_is_mark}
 use Rattle.words.proofs.Spelled.{entry_has, letters_spell, Kind, word_kind, number_kind, mark_kind, kind_of, no_empty_spelling, spelling_to_one_token}
 
 -- The test for a prefix says whether there is one.

@@ -1,22 +1,21 @@
 -- One word at a place of a text: what the reader's answers mean by the definition.
-use Rattle.std.proofs.Common.{◌≡◌, ℕ, zero, suc, ◌+◌, ◌-◌, ◌<◌, ◌≤◌, min, Bool, true, false, cond, eqb, leb, ◌≢◌, List, [], ◌∷◌, ◌++◌, length, get_or, take, drop, IfSome, Some, None, codes, Option, sym, refl, ap, ◌∙◌, ap₂, one-add, arith, length-take, drop-drop}
+use Rattle.std.proofs.Common.{◌≡◌, ℕ, ◌+◌, ◌-◌, ◌<◌, ◌≤◌, Bool, true, false, cond, eqb, leb, ◌≢◌, List, [], ◌∷◌, length, get_or, take, drop, IfSome, Some, None, codes, Option, sym, refl, ap, ◌∙◌, one-add, arith, length-take, drop-drop}
 use Rattle.std.specs.List.{prefix_len, AllByRecursion as All}
 use Rattle.std.specs.Char.{is_ascii_digit, is_ascii_alphanumeric, is_ascii_alphabetic}
 use Rattle.std.proofs.lemmas.List.{at_drop_more, at_drop_all, length-take-le}
 use Rattle.std.proofs.lemmas.Bool.{lt-leb, le-leb, cond_both, ne_eqb}
-use Rattle.std.proofs.lemmas.List.Sums.{prefix_len-drop_yes, prefix_len-drop_no, prefix_len-drop_all, prefix_len-le-length}
+use Rattle.std.proofs.lemmas.List.Sums.{prefix_len-drop_yes, prefix_len-le-length}
 use Rattle.std.proofs.lemmas.Bool.Decides.{nat_tests}
-use Rattle.words.specs.Token.{Token, Word, name, number, keyword}
-use Rattle.words.specs.Spelling.{Fixed, two_byte_marks, one_byte_marks, reserved_words, blank, MadeOf, not_semicolon, value_of}
+use Rattle.words.specs.Token.{Token, name, number}
+use Rattle.words.specs.Spelling.{Fixed, two_byte_marks, one_byte_marks, reserved_words, MadeOf, not_semicolon, value_of}
 use Rattle.std.specs.Str.{bytes_eq}
-use Rattle.words.specs.Words.{Found, found, nothing, exactly, first_of, mark_at, name_at, number_at, name_token, short, skipped, word_at, Next, next_word, next_refused, next_of, end, longest_at}
+use Rattle.words.specs.Words.{found, nothing, exactly, first_of, mark_at, name_at, number_at, name_token, short, skipped, word_at, next_word, next_refused}
 use Rattle.words.specs.Records.{token_in, next_in}
-use Rattle.words.specs.Inner.{mark_or, keyword_or, IsMark}
+use Rattle.words.specs.Inner.{IsMark}
 use Rattle.words.specs.declared.token.Token.{Token as TokenRecord}
 use Rattle.words.specs.declared.token.Token.TheVariants.{Name, Number, Keyword, Mark, Sign, Scaling, Relation}
-use Rattle.words.specs.declared.token.Keyword.{Keyword as KeywordRecord}
-use Rattle.words.specs.declared.word.Next.TheVariants.{Word as NextWord, End, Refused}
-use Rattle.words.specs.declared.refusal.WordRefusal.TheVariants.{NoWord, WordTooLong}
+use Rattle.words.specs.declared.word.Next.TheVariants.{Word as NextWord}
+use Rattle.words.specs.declared.refusal.WordRefusal.TheVariants.{WordTooLong}
 use Rattle.words.proofs.Comparison.{lengths_differ_to_not_same}
 use Rattle.words.proofs.Digits.{digit_to_range}
 use Rattle.words.proofs.Tables.{every_to_all, longer_than_16_to_not_reserved}

@@ -1,18 +1,18 @@
 -- The law of reading: the rules of specs/Reading.antt give each text one result, the one that is computed.
-use Rattle.std.proofs.Common.{◌≡◌, ℕ, zero, suc, ◌+◌, ◌-◌, ◌<◌, ◌≤◌, min, Bool, true, false, cond, not, eqb, leb, ◌⊎◌, List, [], ◌∷◌, ◌++◌, length, take, drop, codes, sym, refl, ap, ◌∙◌, subst, ap₂, inl, inr, append_assoc, append-nil, one-add, arith}
-use Rattle.std.specs.List.{prefix_len, AllByRecursion as All}
+use Rattle.std.proofs.Common.{◌≡◌, ℕ, zero, suc, ◌+◌, ◌-◌, ◌<◌, ◌≤◌, min, Bool, true, false, cond, eqb, ◌⊎◌, List, [], ◌∷◌, ◌++◌, length, take, drop, codes, sym, refl, ap, ◌∙◌, subst, ap₂, inl, inr, append_assoc, append-nil, one-add, arith}
+use Rattle.std.specs.List.{prefix_len}
 use Rattle.std.specs.Str.{bytes_eq}
-use Rattle.std.specs.Char.{is_ascii_digit, is_ascii_alphanumeric, is_ascii_alphabetic}
+use Rattle.std.specs.Char.{is_ascii_digit, is_ascii_alphabetic}
 use Rattle.std.proofs.lemmas.Slice.Eq.{bytes_eq-Decides}
 use Rattle.std.proofs.lemmas.List.{take-append-drop, take_at, drop_at, length-append}
-use Rattle.std.proofs.lemmas.Bool.{leb-true, le-leb, eq-eqb, eqb-true, not-false, cond-true, cond-false, both_ways, cases_Bool, cases_lt}
+use Rattle.std.proofs.lemmas.Bool.{leb-true, le-leb, eq-eqb, eqb-true, not-false, cond-true, cond-false, both_ways, cases_lt}
 use Rattle.std.proofs.lemmas.Bool.Decides.{nat_tests}
 use Rattle.words.specs.Token.{Token, Word, name, number, keyword, mark, sign, scaling, relation}
 use Rattle.words.specs.Spelling.{blank, not_semicolon, MadeOf}
 use Rattle.words.specs.Words.{Found, found, nothing, longest_at, short, skipped, Next, end, next_word, next_refused, word_at, next_of, Words, words, refused, more, one_more, no_more, words_from, words_within, words_of}
 use Rattle.words.specs.Reading.{Spells, Prefix, Longest, Short, Stops, Skips, comment_text, no_text, Cuts, here, gap, cut, Fault, no_word, too_long, too_many, ReadsFrom, to_the_end, to_a_fault, Reads, text_too_long, text_read}
 use Rattle.words.specs.declared.refusal.WordRefusal.{WordRefusal}
-use Rattle.words.specs.declared.refusal.WordRefusal.TheVariants.{TextTooLong, NoWord, WordTooLong, TooManyWords}
+use Rattle.words.specs.declared.refusal.WordRefusal.TheVariants.{NoWord, WordTooLong}
 use Rattle.words.proofs.OneWord.{leading_made_of}
 use Rattle.words.proofs.Spelled.{Kind, word_kind, number_kind, mark_kind, kind_of, no_empty_spelling}
 use Rattle.words.proofs.LongestWord.{LongestFound, longest_is, none_is, longest_at_is, longest_to_found, no_word_to_nothing, prefix_first}

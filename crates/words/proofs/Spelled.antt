@@ -1,16 +1,16 @@
 -- What spells a word, by its first byte; and that a spelling has one token.
-use Rattle.std.proofs.Common.{◌≡◌, ℕ, suc, ◌+◌, ◌<◌, ◌≤◌, Bool, true, false, cond, not, ◌&&◌, eqb, ◌⊎◌, List, [], ◌∷◌, ◌++◌, length, sym, refl, ap, ◌∙◌, subst, inl, inr, arith}
+use Rattle.std.proofs.Common.{◌≡◌, ℕ, Bool, true, false, cond, not, ◌&&◌, ◌⊎◌, List, [], ◌∷◌, sym, refl, ◌∙◌, subst, inl, inr, arith}
 use Rattle.std.specs.List.{AllByRecursion as All}
 use Rattle.std.specs.Str.{bytes_eq}
 use Rattle.std.specs.Char.{is_ascii_digit, is_ascii_alphanumeric, is_ascii_alphabetic}
 use Rattle.std.proofs.lemmas.Slice.Eq.{bytes_eq-Decides}
-use Rattle.std.proofs.lemmas.Bool.{and_parts, not-true, cond-true, cond-false, true≢false, both_ways}
+use Rattle.std.proofs.lemmas.Bool.{and_parts, not-true, true≢false, both_ways}
 use Rattle.std.proofs.lemmas.Bool.Decides.{nat_tests}
 use Rattle.words.specs.Token.{Token, name, number}
 use Rattle.words.specs.Spelling.{Fixed, reserved_words, marks, blank, MadeOf, value_of}
 use Rattle.words.specs.Words.{exactly, name_token}
 use Rattle.words.specs.Reading.{Entry, Spells, a_reserved_word, a_name, a_number, a_mark}
-use Rattle.words.proofs.Tables.{every, every_to_all}
+use Rattle.words.proofs.Tables.{every_to_all}
 
 -- A test of all bytes, and what it says.
 abbrev all_of : (ℕ → Bool) → List ℕ → Bool

@@ -1,14 +1,12 @@
 -- Worked texts: what the definition gives for them, shown by computing it.
 use Rattle.std.specs.Prelude.{◌≡◌, ℕ, List, [], ◌∷◌, codes}
 use Prim.Native.String.{String}
-use Rattle.words.specs.Token.{Token, Word, name, number, keyword, mark, sign, scaling, relation}
+use Rattle.words.specs.Token.{Token, Word, name, number, keyword, mark, relation}
 use Rattle.words.specs.Words.{words, refused, words_of}
 use Rattle.words.specs.Refusal as refusal
 use Rattle.words.specs.declared.refusal.WordRefusal.{WordRefusal}
-use Rattle.words.specs.declared.token.Sign.TheVariants.{Plus, Minus}
-use Rattle.words.specs.declared.token.Scaling.TheVariants.{Times, Over}
-use Rattle.words.specs.declared.token.Relation.TheVariants.{AtMost, Equal, Unequal}
-use Rattle.words.specs.declared.token.Mark.TheVariants.{Semicolon, Colon, Becomes, Into, OpenRound, CloseRound}
+use Rattle.words.specs.declared.token.Relation.TheVariants.{AtMost, Unequal}
+use Rattle.words.specs.declared.token.Mark.TheVariants.{Semicolon, Becomes, Into, OpenRound, CloseRound}
 use Rattle.words.specs.declared.token.Keyword.TheVariants.{Begin, Comment, In}
 
 -- A token at a place; a name by its letters.

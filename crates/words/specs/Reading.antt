@@ -2,7 +2,7 @@
 -- A reader has to believe these rules and the tables of specs/Spelling.antt. The law at the end says that they give every
 -- text exactly one result, and that it is the one specs/Words.antt computes.
 use Rattle.std.specs.Prelude.{◌≡◌, ℕ, suc, ◌+◌, ◌<◌, ◌≤◌, true, false, ◌⊎◌, List, [], ◌∷◌, ◌++◌, length, drop, codes, ◌≢◌}
-use Rattle.std.specs.List.{AllByRecursion as All}
+use Rattle.std.specs.List.{AllByRecursion}
 use Rattle.std.specs.Char.{is_ascii_digit, is_ascii_alphanumeric, is_ascii_alphabetic}
 use Rattle.words.specs.Token.{Token, Word, name, number, keyword, mark, sign, scaling, relation}
 use Rattle.words.specs.Spelling.{Fixed, reserved_words, marks, blank, not_semicolon, MadeOf, value_of}
@@ -99,8 +99,8 @@ pub record Accepted (text : List ℕ) (ws : List Word) : Type 0 where
   pub not_too_long : length text ≤ 8192
   pub not_too_many : length ws ≤ 500
   pub ascending : Ascending 0 (length text) ws
-  pub within_bounds : All (λ w. WithinBounds w.token) ws
-  pub longest_there : All (λ w. (s : List ℕ) × Longest s w.token (drop w.place text)) ws
+  pub within_bounds : AllByRecursion (λ w. WithinBounds w.token) ws
+  pub longest_there : AllByRecursion (λ w. (s : List ℕ) × Longest s w.token (drop w.place text)) ws
 
 -- The law: every text has a result by these rules, the one computed, and no other; and one spelling has one token.
 pub record ReadingLaw : Type 0 where

@@ -2,7 +2,7 @@
 -- A letter is A to Z or a to z and case counts; a digit is 0 to 9.
 use Rattle.std.specs.Prelude.{◌≡◌, ℕ, ◌+◌, ◌-◌, ◌*◌, Bool, true, false, cond, not, List, [], ◌∷◌, ◌++◌, codes, ◌==◌}
 use Prim.Native.String.{String}
-use Rattle.std.specs.List.{AllByRecursion as All}
+use Rattle.std.specs.List.{AllByRecursion}
 use Rattle.words.specs.Token.{Token, keyword, mark, sign, scaling, relation}
 use Rattle.words.specs.declared.token.Sign.TheVariants.{Plus, Minus}
 use Rattle.words.specs.declared.token.Scaling.TheVariants.{Times, Over}
@@ -63,7 +63,7 @@ not_semicolon b = not (b == 59)
 
 -- The bytes are all of a class.
 abbrev pub MadeOf : (ℕ → Bool) → List ℕ → Type 0
-MadeOf p s = All (λ b. p b ≡ true) s
+MadeOf p s = AllByRecursion (λ b. p b ≡ true) s
 
 -- Do the first bytes begin the second?
 abbrev pub begins : List ℕ → List ℕ → Bool

@@ -1,4 +1,4 @@
-use Rattle.std.proofs.Common.{◌≡◌, ◌+◌, ◌<◌, length, sym, ap, ◌∙◌, arith}
+use Rattle.std.proofs.Common.{◌<◌, length, sym, ◌∙◌, arith}
 use Rattle.places.proofs.Steps.{last_start_here, last_start_same, line_ends_more, line_ends_same}
 use Rattle.places.proofs.locate.Goals as goal
 use Rattle.places.proofs.locate.Goals.{then-text-i-eq10, else-text-i-eq10, then-place-text, else-place-text}

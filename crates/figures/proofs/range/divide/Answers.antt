@@ -1,4 +1,4 @@
-use Rattle.std.proofs.Common.{◌≡◌, ℤ, sym, ap, ◌∙◌, arith, w32, w64, SFits, to_z, of_z, rules}
+use Rattle.std.proofs.Common.{◌≡◌, sym, ap, ◌∙◌, arith, w32, w64, SFits, to_z, of_z, rules}
 use lib.Signed.{quot_z}
 use Rattle.std.proofs.lemmas.Int.{to_z-of_z}
 use Rattle.figures.specs.Range.{in_range}

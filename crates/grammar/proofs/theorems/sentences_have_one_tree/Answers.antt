@@ -1,5 +1,5 @@
 use Rattle.std.proofs.Common.{◌≡◌, ◌+◌, sym, ◌∙◌, arith}
-use Rattle.grammar.specs.Parser.{Outcome, tree}
+use Rattle.grammar.specs.Parser.{tree}
 use Rattle.grammar.specs.Tree.{Program}
 use Rattle.grammar.proofs.Complete.{sentence_read}
 use Rattle.grammar.proofs.theorems.sentences_have_one_tree.Goals as goal

@@ -1,6 +1,6 @@
 use Rattle.std.proofs.Common.{◌≡◌, suc, ◌<◌, Bool, true, false, length, sym, ap, ◌∙◌, subst}
 use Rattle.figures.specs.Kinds.{same_as, stands_for_zero}
-use Rattle.rolls.specs.Contents.{Contents, first, rest, took}
+use Rattle.rolls.specs.Contents.{first, rest, took}
 use Rattle.rolls.specs.Groups.{filtered, past}
 use Rattle.rolls.proofs.Grouping.{dropped_after, dropped_shorter, kept_after, kept_answer}
 use Rattle.rolls.proofs.leavers.next_kept.Goals as goal

@@ -1,4 +1,4 @@
-use Rattle.std.proofs.Common.{◌≡◌, sym, ap, ◌∙◌}
+use Rattle.std.proofs.Common.{ap, ◌∙◌}
 use Rattle.rolls.specs.Contents.{rest}
 use Rattle.rolls.proofs.Grouping.{past_more}
 use Rattle.rolls.proofs.leavers.skip.Goals as goal

@@ -1,6 +1,6 @@
-use Rattle.std.proofs.Common.{◌≡◌, ◌+◌, ◌≤◌, [], map, length, sym, ap, ◌∙◌, ap₂, arith}
+use Rattle.std.proofs.Common.{map, length, sym, ap, ◌∙◌, ap₂, arith}
 use Rattle.figures.specs.Faults.{outcome}
-use Rattle.rolls.specs.Contents.{at_ending, rest, rest_of}
+use Rattle.rolls.specs.Contents.{at_ending, rest_of}
 use Rattle.rolls.specs.Tallies.{sum_from}
 use Rattle.rolls.proofs.Taking.{stopped_empty}
 use Rattle.rolls.proofs.tally.add_up.Goals as goal

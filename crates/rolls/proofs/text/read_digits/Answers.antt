@@ -1,4 +1,4 @@
-use Rattle.std.proofs.Common.{◌≡◌, ℕ, ◌+◌, ◌-◌, ◌*◌, ◌<◌, ◌≤◌, true, length, get_or, take, drop, sym, ap, ◌∙◌, subst, arith, length-drop, length-take, rules}
+use Rattle.std.proofs.Common.{◌≡◌, ◌+◌, ◌-◌, ◌*◌, ◌<◌, ◌≤◌, true, length, get_or, take, drop, sym, ap, ◌∙◌, arith, length-take}
 use Rattle.rolls.specs.Lines.{all_digits, digits_value, is_digit}
 use Rattle.rolls.proofs.Digits.{all_digits_push, digit_from_bounds, digits_value_push, part_more, ten_digits_below}
 use Rattle.rolls.proofs.text.read_digits.Goals as goal

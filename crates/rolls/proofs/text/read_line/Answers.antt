@@ -1,4 +1,4 @@
-use Rattle.std.proofs.Common.{◌≡◌, drop, ℤ, pos, ◌-ℤ◌, neg_ℤ, Some, sym, ap, ◌∙◌, arith, w32, to_z, of_z, rules}
+use Rattle.std.proofs.Common.{◌≡◌, drop, pos, ◌-ℤ◌, neg_ℤ, Some, sym, ap, ◌∙◌, arith, w32, to_z, of_z}
 use Rattle.std.proofs.lemmas.Int.{ints}
 use Rattle.rolls.specs.Lines.{before, line_figure, read_from}
 use Rattle.rolls.specs.Text.{by_line}

@@ -1,4 +1,4 @@
-use Rattle.std.proofs.Common.{◌≡◌, ◌<◌, ◌≤◌, sym, ◌∙◌, arith}
+use Rattle.std.proofs.Common.{sym, ◌∙◌, arith}
 use Rattle.words.proofs.Comparison.{lengths_differ_to_not_same, same_at_end, bytes_differ_to_not_same, bytes_agree_to_same_further}
 use Rattle.words.proofs.bytes.equal.Goals as goal
 

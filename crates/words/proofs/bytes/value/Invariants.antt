@@ -1,4 +1,4 @@
-use Rattle.std.proofs.Common.{◌≡◌, ◌+◌, ◌*◌, ◌^◌, ◌≤◌, drop}
+use Rattle.std.proofs.Common.{◌≡◌, ◌+◌, ◌^◌, ◌≤◌, drop}
 use Rattle.words.specs.Spelling.{value_after, value_of}
 use Rattle.words.proofs.bytes.value.Given as goal
 

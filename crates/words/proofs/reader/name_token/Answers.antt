@@ -1,4 +1,4 @@
-use Rattle.std.proofs.Common.{◌≡◌, ap, ◌∙◌}
+use Rattle.std.proofs.Common.{ap, ◌∙◌}
 use Rattle.words.specs.Token.{name}
 use Rattle.words.specs.Words.{name_token}
 use Rattle.words.proofs.reader.name_token.Goals as goal

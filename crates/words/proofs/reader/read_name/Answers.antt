@@ -1,8 +1,6 @@
-use Rattle.std.proofs.Common.{◌≡◌, ◌+◌, ◌-◌, ◌<◌, length, get_or, take, drop, sym, ap, ◌∙◌, arith}
-use Rattle.std.specs.List.{prefix_len}
+use Rattle.std.proofs.Common.{◌≡◌, ◌+◌, ◌-◌, length, get_or, take, drop, ap, ◌∙◌, arith}
 use Rattle.std.specs.Char.{is_ascii_alphanumeric}
 use Rattle.words.specs.Words.{name_token, skipped}
-use Rattle.words.specs.Records.{token_in}
 use Rattle.words.proofs.OneWord.{name_read, name_refused, run_part, run_length, run_not_empty, letter_to_alnum}
 use Rattle.words.proofs.reader.read_name.Goals as goal
 

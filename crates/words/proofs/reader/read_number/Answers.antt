@@ -1,7 +1,7 @@
-use Rattle.std.proofs.Common.{◌≡◌, ◌+◌, ◌-◌, ◌<◌, length, take, drop, sym, ap, ◌∙◌, arith}
+use Rattle.std.proofs.Common.{length, ap, ◌∙◌, arith}
 use Rattle.std.specs.Char.{is_ascii_digit}
 use Rattle.words.specs.Spelling.{value_of}
-use Rattle.words.proofs.OneWord.{number_read, number_refused, run_part, run_length, run_made_of, run_not_empty}
+use Rattle.words.proofs.OneWord.{number_read, run_part, run_length, run_made_of, run_not_empty}
 use Rattle.words.proofs.reader.read_number.Goals as goal
 
 pub value-requires : goal.value-requires

@@ -1,7 +1,6 @@
-use Rattle.std.proofs.Common.{◌≡◌, ℤ, ◌≤ℤ◌, sym, ap, ◌∙◌, subst, arith, w32, rules}
-use Rattle.std.proofs.lemmas.Int.{ints, to_z-of_z}
+use Rattle.std.proofs.Common.{◌≡◌, sym, ap, ◌∙◌, subst, arith, rules}
+use Rattle.std.proofs.lemmas.Int.{ints}
 use Rattle.figures.specs.Hundredths.{hundredths_value, nearest_whole, Nearest}
-use Rattle.figures.specs.Range.{low, high}
 use Rattle.figures.proofs.Rounding.{nearest_in_bits, nearest_whole_is_nearest, nearest_within}
 use Rattle.figures.proofs.hundredths.HundredthsFigures.nearest.Goals as goal
 

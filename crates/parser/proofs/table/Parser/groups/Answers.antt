@@ -19,27 +19,27 @@ loop-self-init c = row_none group GroupAt group_stays c.args.levels c.group.new.
 pub take_mark-requires : goal.take_mark-requires
 take_mark-requires c = c.loop-self.invariant.moves.ready
 
-pub returns-in_err-next : goal.returns-in_err-next
-returns-in_err-next c =
-    let p = err_from_is_err_and c.from_residual-in_err-next.result c.from_residual-in_err-next.ensures.1 in
+pub returns-in_err-another : goal.returns-in_err-another
+returns-in_err-another c =
+    let p = err_from_is_err_and c.from_residual-in_err-another.result c.from_residual-in_err-another.ensures.1 in
     rw (p.1, p.2) (row_refused group GroupAt group_stays c.args.levels c.args.self.now c.group.new.self c.in_ok-all.all c.loop-self.self c.loop-self.all
     c.take_mark.new.self c.group-in-loop-self.new.self _ c.requires c.in_ok-all.ensures.reads c.loop-self.invariant
-    c.loop-self-test.ensures.is c.loop-self-test.ensures.took c.group-in-loop-self.ensures.moves c.in_err-next.ensures.reads)
+    c.loop-self-test.ensures.is c.loop-self-test.ensures.took c.group-in-loop-self.ensures.moves c.in_err-another.ensures.reads)
 
 pub make-all-requires : goal.make-all-requires
 make-all-requires c =
     row_paid group GroupAt group_stays c.args.levels c.group.new.self c.in_ok-all.all c.loop-self.self c.loop-self.all c.take_mark.new.self c.group-in-loop-self.new.self
-    c.loop-self.invariant c.loop-self-test.ensures.took c.in_ok-next.ensures.moves
+    c.loop-self.invariant c.loop-self-test.ensures.took c.in_ok-another.ensures.moves
 
 pub loop-self-smaller : goal.loop-self-smaller
 loop-self-smaller c =
-    row_falls group GroupAt group_stays c.loop-self.self c.take_mark.new.self c.group-in-loop-self.new.self c.make-all.new.self c.loop-self.all c.in_ok-next.next c.make-all.result
-    c.loop-self-test.ensures.is c.loop-self-test.ensures.took c.in_ok-next.ensures.moves c.make-all.ensures
+    row_falls group GroupAt group_stays c.loop-self.self c.take_mark.new.self c.group-in-loop-self.new.self c.make-all.new.self c.loop-self.all c.in_ok-another.another c.make-all.result
+    c.loop-self-test.ensures.is c.loop-self-test.ensures.took c.in_ok-another.ensures.moves c.make-all.ensures
 
 pub loop-self-preserved : goal.loop-self-preserved
 loop-self-preserved c =
     row_again group GroupAt group_stays c.args.levels c.group.new.self c.in_ok-all.all c.loop-self.self c.loop-self.all c.take_mark.new.self c.group-in-loop-self.new.self c.make-all.new.self
-    c.in_ok-next.next c.make-all.result c.loop-self.invariant c.loop-self-test.ensures.is c.loop-self-test.ensures.took c.in_ok-next.ensures.reads c.make-all.ensures
+    c.in_ok-another.another c.make-all.result c.loop-self.invariant c.loop-self-test.ensures.is c.loop-self-test.ensures.took c.in_ok-another.ensures.reads c.make-all.ensures
 
 pub returns : goal.returns
 returns c =
