@@ -7,8 +7,8 @@ pub offset_bounds-operands-place : goal.offset_bounds-operands-place
 offset_bounds-operands-place c =
     let code = code_in c.args.code.now in
     let w = well_formed code c.args.code.now.passes in
-    let long = w.operations-long in
-    let few = w.few-operations in
+    let long = w.operations_long in
+    let few = w.few_operations in
     let inside = c.requires in
     omega arith
 

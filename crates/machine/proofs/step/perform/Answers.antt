@@ -26,8 +26,8 @@ calculate-requires g c =
     let r = room code w c.requires.fits h.0 in
     record { low = r.low; high = omega arith; tall = omega arith; operand = h.1 }
 
-pub returns-in_err-frame : goal.returns-in_err-frame
-returns-in_err-frame g c =
+pub returns-in_err-frame-in-Calculate : goal.returns-in_err-frame-in-Calculate
+returns-in_err-frame-in-Calculate g c =
     let code = code_in c.args.code.now in
     let w = well_formed code c.args.code.now.passes in
     let i = c.args.frame.now.place in
@@ -35,17 +35,17 @@ returns-in_err-frame g c =
     let x = c.operand_at-operand.result in
     let is = c.in-Calculate.ensures in
     let h = facts_at code w i c.args.operation (Calculate c.in-Calculate.calculation) x c.requires.at is c.operand_at-operand.ensures in
-    let kind = g.Figure.Figures.kind in
-    let means = g.Figure.Figures.means in
+    let kind = g.R.Figure.Figures.kind in
+    let means = g.R.Figure.Figures.means in
     let stack = c.args.stack.now in
     let roll = g.R.Roll.holds c.args.roll.now in
     let s = state means c.args.frame.now c.args.cells.now stack c.args.book.now roll in
     let q = err_from_is_err_and c.from_residual.result c.from_residual.ensures.1 in
-    let fault = fault_of c.in_err-frame.field-0.0 in
-    rw (q.1, q.2) (record { done = calculate_fails kind code s c.args.operation x c.requires.at c.operand_at-operand.ensures c.in-Calculate.calculation is fault c.in_err-frame.ensures.work; next = tt })
+    let fault = fault_of c.in_err-frame-in-Calculate.field-0.0 in
+    rw (q.1, q.2) (record { done = calculate_fails kind code s c.args.operation x c.requires.at c.operand_at-operand.ensures c.in-Calculate.calculation is fault c.in_err-frame-in-Calculate.ensures.work; next = tt })
 
-pub returns-in_ok-frame : goal.returns-in_ok-frame
-returns-in_ok-frame g c =
+pub returns-in_ok-frame-in-Calculate : goal.returns-in_ok-frame-in-Calculate
+returns-in_ok-frame-in-Calculate g c =
     let code = code_in c.args.code.now in
     let w = well_formed code c.args.code.now.passes in
     let i = c.args.frame.now.place in
@@ -53,15 +53,15 @@ returns-in_ok-frame g c =
     let x = c.operand_at-operand.result in
     let is = c.in-Calculate.ensures in
     let h = facts_at code w i c.args.operation (Calculate c.in-Calculate.calculation) x c.requires.at is c.operand_at-operand.ensures in
-    let kind = g.Figure.Figures.kind in
-    let means = g.Figure.Figures.means in
+    let kind = g.R.Figure.Figures.kind in
+    let means = g.R.Figure.Figures.means in
     let stack = c.args.stack.now in
     let roll = g.R.Roll.holds c.args.roll.now in
     let s = state means c.args.frame.now c.args.cells.now stack c.args.book.now roll in
     let r = room code w c.requires.fits h.0 in
-    let e = c.in_ok-frame.ensures in
+    let e = c.in_ok-frame-in-Calculate.ensures in
     let after = c.calculate.new.stack in
-    let n = c.in_ok-frame.field-0 in
+    let n = c.in_ok-frame-in-Calculate.field-0 in
     let same = c.calculate.auto.stack in
     let long = operands_length means after n (omega arith) in
     record {
@@ -86,8 +86,8 @@ transfer_figure-requires g c =
       operand = subst (λ (m : ℕ). TransferOperand c.in-Transfer.transfer x m) (sym c.requires.fits.wide) h.1;
     }
 
-pub returns-in_err-frame-2 : goal.returns-in_err-frame-2
-returns-in_err-frame-2 g c =
+pub returns-in_err-frame-in-Transfer : goal.returns-in_err-frame-in-Transfer
+returns-in_err-frame-in-Transfer g c =
     let code = code_in c.args.code.now in
     let w = well_formed code c.args.code.now.passes in
     let i = c.args.frame.now.place in
@@ -95,14 +95,14 @@ returns-in_err-frame-2 g c =
     let x = c.operand_at-operand.result in
     let is = c.in-Transfer.ensures in
     let h = facts_at code w i c.args.operation (Transfer c.in-Transfer.transfer) x c.requires.at is c.operand_at-operand.ensures in
-    let kind = g.Figure.Figures.kind in
-    let means = g.Figure.Figures.means in
+    let kind = g.R.Figure.Figures.kind in
+    let means = g.R.Figure.Figures.means in
     let stack = c.args.stack.now in
     let roll = g.R.Roll.holds c.args.roll.now in
     let s = state means c.args.frame.now c.args.cells.now stack c.args.book.now roll in
-    let q = err_from_is_err_and c.from_residual-in_err-frame-2.result c.from_residual-in_err-frame-2.ensures.1 in
-    let e = c.in_err-frame-2.ensures in
-    let fault = fault_of c.in_err-frame-2.field-0.0 in
+    let q = err_from_is_err_and c.from_residual-in_err-frame-in-Transfer.result c.from_residual-in_err-frame-in-Transfer.ensures.1 in
+    let e = c.in_err-frame-in-Transfer.ensures in
+    let fault = fault_of c.in_err-frame-in-Transfer.field-0.0 in
     rw (q.1, q.2) (record {
       done =
           transfer_fails kind code s c.args.operation x c.requires.at c.operand_at-operand.ensures c.in-Transfer.transfer is fault e.work
@@ -110,8 +110,8 @@ returns-in_err-frame-2 g c =
       next = tt;
     })
 
-pub returns-in_ok-frame-2 : goal.returns-in_ok-frame-2
-returns-in_ok-frame-2 g c =
+pub returns-in_ok-frame-in-Transfer : goal.returns-in_ok-frame-in-Transfer
+returns-in_ok-frame-in-Transfer g c =
     let code = code_in c.args.code.now in
     let w = well_formed code c.args.code.now.passes in
     let i = c.args.frame.now.place in
@@ -119,15 +119,15 @@ returns-in_ok-frame-2 g c =
     let x = c.operand_at-operand.result in
     let is = c.in-Transfer.ensures in
     let h = facts_at code w i c.args.operation (Transfer c.in-Transfer.transfer) x c.requires.at is c.operand_at-operand.ensures in
-    let kind = g.Figure.Figures.kind in
-    let means = g.Figure.Figures.means in
+    let kind = g.R.Figure.Figures.kind in
+    let means = g.R.Figure.Figures.means in
     let stack = c.args.stack.now in
     let roll = g.R.Roll.holds c.args.roll.now in
     let s = state means c.args.frame.now c.args.cells.now stack c.args.book.now roll in
     let r = room code w c.requires.fits h.0 in
-    let e = c.in_ok-frame-2.ensures in
+    let e = c.in_ok-frame-in-Transfer.ensures in
     let after = c.transfer_figure.new.stack in
-    let n = c.in_ok-frame-2.field-0 in
+    let n = c.in_ok-frame-in-Transfer.field-0 in
     let same = c.transfer_figure.auto.stack in
     let long = operands_length means after n (omega arith) in
     record {
@@ -146,13 +146,13 @@ go-requires g c =
     let h = facts_at code w i c.args.operation (Go c.in-Go.branch) x c.requires.at is c.operand_at-operand.ensures in
     let found = (sound_at code w i c.args.operation c.requires.at).found in
     let fits = c.requires.fits in
-    let long = w.operations-long in
-    let few = w.few-operations in
+    let long = w.operations_long in
+    let few = w.few_operations in
     record {
-      low = branch_low g.Figure.Figures.kind code w fits c.in-Go.branch x h;
+      low = branch_low g.R.Figure.Figures.kind code w fits c.in-Go.branch x h;
       tall = omega arith;
       place = omega arith;
-      operand = subst (λ (ns : List ℕ). BranchOperand c.in-Go.branch (length ns) (get_or ns x 0) x) (sym c.operands.ensures) (branch_names g.Figure.Figures.kind code w fits c.in-Go.branch x h);
+      operand = subst (λ (ns : List ℕ). BranchOperand c.in-Go.branch (length ns) (get_or ns x 0) x) (sym c.operands.ensures) (branch_names g.R.Figure.Figures.kind code w fits c.in-Go.branch x h);
     }
 
 pub returns-in-Go : goal.returns-in-Go
@@ -164,8 +164,8 @@ returns-in-Go g c =
     let x = c.operand_at-operand.result in
     let is = c.in-Go.ensures in
     let h = facts_at code w i c.args.operation (Go c.in-Go.branch) x c.requires.at is c.operand_at-operand.ensures in
-    let kind = g.Figure.Figures.kind in
-    let means = g.Figure.Figures.means in
+    let kind = g.R.Figure.Figures.kind in
+    let means = g.R.Figure.Figures.means in
     let stack = c.args.stack.now in
     let roll = g.R.Roll.holds c.args.roll.now in
     let s = state means c.args.frame.now c.args.cells.now stack c.args.book.now roll in
@@ -218,8 +218,8 @@ take_into-requires g c =
     let h = facts_at code w i c.args.operation (Take c.in-Take.is_rounded) x c.requires.at is c.operand_at-operand.ensures in
     subst (λ (m : ℕ). NamesCells m (unpacked x)) (sym c.requires.fits.wide) h.1
 
-pub returns-in_err-take_into : goal.returns-in_err-take_into
-returns-in_err-take_into g c =
+pub returns-in_err-take_into-in-Take : goal.returns-in_err-take_into-in-Take
+returns-in_err-take_into-in-Take g c =
     let code = code_in c.args.code.now in
     let w = well_formed code c.args.code.now.passes in
     let i = c.args.frame.now.place in
@@ -227,16 +227,16 @@ returns-in_err-take_into g c =
     let x = c.operand_at-operand.result in
     let is = c.in-Take.ensures in
     let h = facts_at code w i c.args.operation (Take c.in-Take.is_rounded) x c.requires.at is c.operand_at-operand.ensures in
-    let kind = g.Figure.Figures.kind in
-    let means = g.Figure.Figures.means in
+    let kind = g.R.Figure.Figures.kind in
+    let means = g.R.Figure.Figures.means in
     let stack = c.args.stack.now in
     let roll = g.R.Roll.holds c.args.roll.now in
     let s = state means c.args.frame.now c.args.cells.now stack c.args.book.now roll in
     let r = room code w c.requires.fits h.0 in
     let top = top_at means stack d (omega arith) c.figure_over-subscript.ensures in
-    let q = err_from_is_err_and c.from_residual-in_err-take_into.result c.from_residual-in_err-take_into.ensures.1 in
-    let e = c.in_err-take_into.ensures in
-    let fault = fault_of c.in_err-take_into.field-0.0 in
+    let q = err_from_is_err_and c.from_residual-in_err-take_into-in-Take.result c.from_residual-in_err-take_into-in-Take.ensures.1 in
+    let e = c.in_err-take_into-in-Take.ensures in
+    let fault = fault_of c.in_err-take_into-in-Take.field-0.0 in
     rw (q.1, q.2) (record {
       done =
           take_fails kind code s c.args.operation x c.requires.at c.operand_at-operand.ensures c.in-Take.is_rounded is (means c.figure_over-subscript.result) (operands means (d - 1) stack) top fault e.work
@@ -244,8 +244,8 @@ returns-in_err-take_into g c =
       next = tt;
     })
 
-pub returns-in_ok-take_into : goal.returns-in_ok-take_into
-returns-in_ok-take_into g c =
+pub returns-in_ok-take_into-in-Take : goal.returns-in_ok-take_into-in-Take
+returns-in_ok-take_into-in-Take g c =
     let code = code_in c.args.code.now in
     let w = well_formed code c.args.code.now.passes in
     let i = c.args.frame.now.place in
@@ -253,14 +253,14 @@ returns-in_ok-take_into g c =
     let x = c.operand_at-operand.result in
     let is = c.in-Take.ensures in
     let h = facts_at code w i c.args.operation (Take c.in-Take.is_rounded) x c.requires.at is c.operand_at-operand.ensures in
-    let kind = g.Figure.Figures.kind in
-    let means = g.Figure.Figures.means in
+    let kind = g.R.Figure.Figures.kind in
+    let means = g.R.Figure.Figures.means in
     let stack = c.args.stack.now in
     let roll = g.R.Roll.holds c.args.roll.now in
     let s = state means c.args.frame.now c.args.cells.now stack c.args.book.now roll in
     let r = room code w c.requires.fits h.0 in
     let top = top_at means stack d (omega arith) c.figure_over-subscript.ensures in
-    let e = c.in_ok-take_into.ensures in
+    let e = c.in_ok-take_into-in-Take.ensures in
     let long = operands_length means stack (d - 1) (omega arith) in
     record {
       done = take_goes kind code s c.args.operation x c.requires.at c.operand_at-operand.ensures c.in-Take.is_rounded is (means c.figure_over-subscript.result) (operands means (d - 1) stack) top (map means c.take_into.new.cells) (valued means (g.R.Roll.holds c.take_into.new.roll)) e.work (omega arith);
@@ -291,8 +291,8 @@ figure_over-requires g c =
     let r = room code w c.requires.fits h in
     omega arith
 
-pub returns-in_err-post : goal.returns-in_err-post
-returns-in_err-post g c =
+pub returns-in_err-post-in-Post : goal.returns-in_err-post-in-Post
+returns-in_err-post-in-Post g c =
     let code = code_in c.args.code.now in
     let w = well_formed code c.args.code.now.passes in
     let i = c.args.frame.now.place in
@@ -300,16 +300,16 @@ returns-in_err-post g c =
     let x = c.operand_at-operand.result in
     let is = c.in-Post.ensures in
     let h = facts_at code w i c.args.operation Post x c.requires.at is c.operand_at-operand.ensures in
-    let kind = g.Figure.Figures.kind in
-    let means = g.Figure.Figures.means in
+    let kind = g.R.Figure.Figures.kind in
+    let means = g.R.Figure.Figures.means in
     let stack = c.args.stack.now in
     let roll = g.R.Roll.holds c.args.roll.now in
     let s = state means c.args.frame.now c.args.cells.now stack c.args.book.now roll in
     let r = room code w c.requires.fits h in
     let top = top_at means stack d (omega arith) c.figure_over.ensures in
-    let q = err_from_is_err_and c.from_residual-in_err-post.result c.from_residual-in_err-post.ensures.1 in
-    let e = c.in_err-post.ensures in
-    let fault = fault_of c.in_err-post.field-0.0 in
+    let q = err_from_is_err_and c.from_residual-in_err-post-in-Post.result c.from_residual-in_err-post-in-Post.ensures.1 in
+    let e = c.in_err-post-in-Post.ensures in
+    let fault = fault_of c.in_err-post-in-Post.field-0.0 in
     rw (q.1, q.2) (record {
       done =
           post_fails kind code s c.args.operation x c.requires.at c.operand_at-operand.ensures is (means c.figure_over.result) (operands means (d - 1) stack) top fault e.work
@@ -317,8 +317,8 @@ returns-in_err-post g c =
       next = tt;
     })
 
-pub returns-in_ok-post : goal.returns-in_ok-post
-returns-in_ok-post g c =
+pub returns-in_ok-post-in-Post : goal.returns-in_ok-post-in-Post
+returns-in_ok-post-in-Post g c =
     let code = code_in c.args.code.now in
     let w = well_formed code c.args.code.now.passes in
     let i = c.args.frame.now.place in
@@ -326,14 +326,14 @@ returns-in_ok-post g c =
     let x = c.operand_at-operand.result in
     let is = c.in-Post.ensures in
     let h = facts_at code w i c.args.operation Post x c.requires.at is c.operand_at-operand.ensures in
-    let kind = g.Figure.Figures.kind in
-    let means = g.Figure.Figures.means in
+    let kind = g.R.Figure.Figures.kind in
+    let means = g.R.Figure.Figures.means in
     let stack = c.args.stack.now in
     let roll = g.R.Roll.holds c.args.roll.now in
     let s = state means c.args.frame.now c.args.cells.now stack c.args.book.now roll in
     let r = room code w c.requires.fits h in
     let top = top_at means stack d (omega arith) c.figure_over.ensures in
-    let e = c.in_ok-post.ensures in
+    let e = c.in_ok-post-in-Post.ensures in
     let long = operands_length means stack (d - 1) (omega arith) in
     record {
       done = post_goes kind code s c.args.operation x c.requires.at c.operand_at-operand.ensures is (means c.figure_over.result) (operands means (d - 1) stack) top (map means c.post.new.book) e.work (omega arith);
@@ -349,8 +349,8 @@ returns-in-Pass g c =
     let x = c.operand_at-operand.result in
     let is = c.in-Pass.ensures in
     let h = facts_at code w i c.args.operation Pass x c.requires.at is c.operand_at-operand.ensures in
-    let kind = g.Figure.Figures.kind in
-    let means = g.Figure.Figures.means in
+    let kind = g.R.Figure.Figures.kind in
+    let means = g.R.Figure.Figures.means in
     let stack = c.args.stack.now in
     let roll = g.R.Roll.holds c.args.roll.now in
     let s = state means c.args.frame.now c.args.cells.now stack c.args.book.now roll in

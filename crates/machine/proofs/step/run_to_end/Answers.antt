@@ -10,17 +10,17 @@ use Rattle.machine.proofs.step.run_to_end.Goals as goal
 
 pub returns-then-ends_step : goal.returns-then-ends_step
 returns-then-ends_step g c =
-    let kind = g.Figure.Figures.kind in
+    let kind = g.R.Figure.Figures.kind in
     let code = code_in c.args.code.now in
     let l = c.operations in
-    let s = state g.Figure.Figures.means l.frame l.cells l.stack l.book (g.R.Roll.holds l.roll) in
+    let s = state g.R.Figure.Figures.means l.frame l.cells l.stack l.book (g.R.Roll.holds l.roll) in
     let here : ends_step_at (operation_at code.operations l.frame.place) ≡ true = ap ends_step_at c.operation_at-operation.ensures ∙ sym c.ends_step.ensures ∙ c.if-ends_step.true in
     record { done = l.invariant.1 (goes s) (ended_stays kind code s here); next = record { fits = l.invariant.0; ended = here } }
 
 pub operations-preserved : goal.operations-preserved
 operations-preserved g c =
-    let kind = g.Figure.Figures.kind in
-    let means = g.Figure.Figures.means in
+    let kind = g.R.Figure.Figures.kind in
+    let means = g.R.Figure.Figures.means in
     let code = code_in c.args.code.now in
     let l = c.operations in
     let n = c.perform.new in
@@ -33,10 +33,10 @@ operations-preserved g c =
 
 pub returns-in_err-perform : goal.returns-in_err-perform
 returns-in_err-perform g c =
-    let kind = g.Figure.Figures.kind in
+    let kind = g.R.Figure.Figures.kind in
     let code = code_in c.args.code.now in
     let l = c.operations in
-    let s = state g.Figure.Figures.means l.frame l.cells l.stack l.book (g.R.Roll.holds l.roll) in
+    let s = state g.R.Figure.Figures.means l.frame l.cells l.stack l.book (g.R.Roll.holds l.roll) in
     let here : ends_step_at (operation_at code.operations l.frame.place) ≡ false = ap ends_step_at c.operation_at-operation.ensures ∙ sym c.ends_step.ensures ∙ c.if-ends_step.false in
     let q = err_from_is_err_and c.from_residual.result c.from_residual.ensures.1 in
     let e = c.in_err-perform.ensures in

@@ -7,4 +7,4 @@ use Rattle.machine.proofs.ready.Ready.start.Goals as goal
 pub invariant_of-result : goal.invariant_of-result
 invariant_of-result c =
     let code = code_in c.args.self.code in
-    (first_stands code (well_formed code c.args.self.code.passes), (omega arith, tt))
+    record { stands = first_stands code (well_formed code c.args.self.code.passes); few = omega arith }

@@ -12,8 +12,8 @@ use Rattle.machine.proofs.running.Running.advance.Goals as goal
 
 pub returns-then-not-has_all_cells : goal.returns-then-not-has_all_cells
 returns-then-not-has_all_cells g c =
-    let kind = g.Figure.Figures.kind in
-    let means = g.Figure.Figures.means in
+    let kind = g.R.Figure.Figures.kind in
+    let means = g.R.Figure.Figures.means in
     let r = c.args.self.now in
     let code = code_in r.code in
     let n = c.args.steps in
@@ -25,8 +25,8 @@ returns-then-not-has_all_cells g c =
 
 pub returns-then-stack-sizes : goal.returns-then-stack-sizes
 returns-then-stack-sizes g c =
-    let kind = g.Figure.Figures.kind in
-    let means = g.Figure.Figures.means in
+    let kind = g.R.Figure.Figures.kind in
+    let means = g.R.Figure.Figures.means in
     let r = c.args.self.now in
     let code = code_in r.code in
     let n = c.args.steps in
@@ -40,8 +40,8 @@ returns-then-stack-sizes g c =
 
 pub returns-then-has_ended : goal.returns-then-has_ended
 returns-then-has_ended g c =
-    let kind = g.Figure.Figures.kind in
-    let means = g.Figure.Figures.means in
+    let kind = g.R.Figure.Figures.kind in
+    let means = g.R.Figure.Figures.means in
     let r = c.args.self.now in
     let code = code_in r.code in
     let n = c.args.steps in
@@ -56,8 +56,8 @@ returns-then-has_ended g c =
 
 pub returns-then-steps-self : goal.returns-then-steps-self
 returns-then-steps-self g c =
-    let kind = g.Figure.Figures.kind in
-    let means = g.Figure.Figures.means in
+    let kind = g.R.Figure.Figures.kind in
+    let means = g.R.Figure.Figures.means in
     let r = c.args.self.now in
     let code = code_in r.code in
     let n = c.args.steps in
@@ -74,8 +74,8 @@ returns-then-steps-self g c =
 
 pub returns-then-book-self : goal.returns-then-book-self
 returns-then-book-self g c =
-    let kind = g.Figure.Figures.kind in
-    let means = g.Figure.Figures.means in
+    let kind = g.R.Figure.Figures.kind in
+    let means = g.R.Figure.Figures.means in
     let r = c.args.self.now in
     let code = code_in r.code in
     let n = c.args.steps in
@@ -93,8 +93,8 @@ returns-then-book-self g c =
 
 pub loop-made-preserved : goal.loop-made-preserved
 loop-made-preserved g c =
-    let kind = g.Figure.Figures.kind in
-    let means = g.Figure.Figures.means in
+    let kind = g.R.Figure.Figures.kind in
+    let means = g.R.Figure.Figures.means in
     let r = c.args.self.now in
     let code = code_in r.code in
     let n = c.args.steps in
@@ -110,8 +110,8 @@ loop-made-preserved g c =
 
 pub returns-then-has_ended-2 : goal.returns-then-has_ended-2
 returns-then-has_ended-2 g c =
-    let kind = g.Figure.Figures.kind in
-    let means = g.Figure.Figures.means in
+    let kind = g.R.Figure.Figures.kind in
+    let means = g.R.Figure.Figures.means in
     let r = c.args.self.now in
     let code = code_in r.code in
     let n = c.args.steps in
@@ -132,8 +132,8 @@ returns-then-has_ended-2 g c =
 
 pub returns : goal.returns
 returns g c =
-    let kind = g.Figure.Figures.kind in
-    let means = g.Figure.Figures.means in
+    let kind = g.R.Figure.Figures.kind in
+    let means = g.R.Figure.Figures.means in
     let r = c.args.self.now in
     let code = code_in r.code in
     let n = c.args.steps in

@@ -24,8 +24,8 @@ step-requires g c =
 
 pub returns-in-Ok : goal.returns-in-Ok
 returns-in-Ok g c =
-    let kind = g.Figure.Figures.kind in
-    let means = g.Figure.Figures.means in
+    let kind = g.R.Figure.Figures.kind in
+    let means = g.R.Figure.Figures.means in
     let r = c.args.self.now in
     let before = run_of means r c.args.cells.now c.args.book.now (g.R.Roll.holds c.args.roll.now) in
     let n = c.step.new in
@@ -42,8 +42,8 @@ returns-in-Ok g c =
 
 pub returns-in-Err : goal.returns-in-Err
 returns-in-Err g c =
-    let kind = g.Figure.Figures.kind in
-    let means = g.Figure.Figures.means in
+    let kind = g.R.Figure.Figures.kind in
+    let means = g.R.Figure.Figures.means in
     let r = c.args.self.now in
     let before = run_of means r c.args.cells.now c.args.book.now (g.R.Roll.holds c.args.roll.now) in
     let e = c.in-Err.ensures in
