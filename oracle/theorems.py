@@ -10,26 +10,25 @@ from generate import trial
 from ial import result
 from run import leaver_filter, text_roll
 
-STEPS = 100  # the limit of `comes-of`
+STEPS = 100  # the limit of `comes_of`
 
-STATEMENT_USES = """use mathlib.Core.Path.{_≡_}
-use mathlib.Core.List.{List, [], _∷_}
-use lib.IntN.{ℤ, pos, negsuc}
-use Rattle·figures.specs.Whole.{whole}
-use Rattle·figures.specs.Hundredths.{hundredths}
-use Rattle·rolls.specs.Contents.{ends, damaged-at}
-use Rattle·std.specs.declared.option.Option.the-variants.{Some, None}
-use Rattle·meaning.specs.Runs.{ended, faulted, going, over}
-use Rattle·meaning.specs.Cases.{refused, ran, comes-of}
+STATEMENT_USES = """use Rattle.std.specs.Prelude.{◌≡◌, [], ◌∷◌, pos, negsuc, Some, None}
+use Rattle.figures.specs.Whole.{whole}
+use Rattle.figures.specs.Hundredths.{hundredths}
+use Rattle.rolls.specs.Contents.{ends, damaged_at}
+use Rattle.meaning.specs.Runs.{ended, faulted, going, over}
+use Rattle.meaning.specs.Cases.{refused, ran, comes_of}
 """
-PROOF_USES = """use mathlib.Core.Path.{refl}
-use Rattle·words.specs.Words.{name-token, mark-at, words-of}
-use Rattle·symbols.specs.Rules.{verdict}
+PROOF_USES = """use Rattle.std.specs.Prelude.{refl}
+use Rattle.words.specs.Words.{words_within, name_token, mark_at}
+use Rattle.symbols.specs.Rules.{verdict}
 """
-SOURCE = """ghost use Rattle·trials·specs.Trials.{Trials};
+SOURCE = """#![tactic(auto)]
+
+ghost use Rattle.trials.specs.Trials.{Trials};
 
 pub fn trials_hold() -> u8
-    ensures { λ _. ⌜ Trials ⌝ }
+    ensures { Trials }
 {
     0
 }
@@ -51,7 +50,7 @@ def status(outcome):
         return "(over ended)"
     fault = outcome["status"]
     place = "None" if fault["roll_place"] is None else f"(Some {fault['roll_place']})"
-    return f"(over (faulted (record {{ number = {fault['fault']}; place = {fault['place']}; roll-place = {place} }})))"
+    return f"(over (faulted (record {{ number = {fault['fault']}; place = {fault['place']}; roll_place = {place} }})))"
 
 
 def statement(seed):
@@ -68,9 +67,9 @@ def statement(seed):
         comes_to = f"refused {outcome['refused']} {outcome['place']}"
     else:
         comes_to = f"ran {outcome['steps']} {listed(outcome['cells'])} {listed(outcome['book'])} {status(outcome)}"
-    ends = "ends" if ending is None else f"damaged-at {ending}"
+    ends = "ends" if ending is None else f"damaged_at {ending}"
     roll = f"(record {{ figures = {listed(figures)}; ending = {ends} }})"
-    return f'comes-of {t["kind"]} {listed(cells)} {roll} {t["book"]} "{text}" ≡ {comes_to}'
+    return f'comes_of {t["kind"]} {listed(cells)} {roll} {t["book"]} "{text}" ≡ {comes_to}'
 
 
 def write(folder, name, text):
@@ -83,7 +82,7 @@ def write(folder, name, text):
 def main():
     folder, first, count = sys.argv[1], int(sys.argv[2]), int(sys.argv[3])
     trials = {f"t{seed}": statement(seed) for seed in range(first, first + count)}
-    opened = "unfolding name-token mark-at words-of verdict comes-of"
+    opened = "unfolding words_within name_token mark_at verdict comes_of"
     write(folder, "src/lib.rt", SOURCE)
     write(folder, "specs/Lib.antt", "pub mod Trials\n")
     write(folder, "specs/Trials.antt", STATEMENT_USES + "\npub record Trials : Type 0 where\n"
@@ -91,8 +90,8 @@ def main():
     write(folder, "proofs/Lib.antt", "pub mod Each\n")
     write(folder, "proofs/Each.antt", STATEMENT_USES + PROOF_USES
           + "".join(f"\npub {n} : {s}\n{opened}\n{n} = refl\n" for n, s in trials.items()))
-    write(folder, "proofs/trials_hold/Answers.antt", f"use Rattle·trials·proofs.Each.{{{', '.join(trials)}}}\n"
-          "use Rattle·trials·proofs.trials_hold.Needs as need\n\npub returns : need.returns\nreturns c = record {\n"
+    write(folder, "proofs/trials_hold/Answers.antt", f"use Rattle.trials.proofs.Each.{{{', '.join(trials)}}}\n"
+          "use Rattle.trials.proofs.trials_hold.Goals as goal\n\npub returns : goal.returns\nreturns c = record {\n"
           + "".join(f"  {n} = {n};\n" for n in trials) + "}\n")
 
 
