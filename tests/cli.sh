@@ -1,8 +1,12 @@
 #!/usr/bin/env bash
-# Runs the built program on small inputs and compares what it prints and its status.
+# Runs the built program on small inputs and compares what it prints and its status. `rt ci` builds it, and so does `rt run`.
 set -uo pipefail
 cd "$(dirname "${BASH_SOURCE[0]}")/.."
-ial=$PWD/target/bin/ial
+ial=$PWD/crates/ial/out/ial
+if [ ! -x "$ial" ]; then
+    echo "crates/ial/out/ial is not built"
+    exit 1
+fi
 dir=$(mktemp -d)
 trap 'rm -rf "$dir"' EXIT
 failed=0

@@ -19,6 +19,7 @@ mod visible;
 use arguments::Command;
 use failure::Failure;
 use std::env;
+use std::process::ExitCode;
 
 fn execute(rt: &HostRuntime) -> Result<(), Failure> {
     let mut words = Vec::new(rt.alloc());
@@ -34,13 +35,13 @@ fn execute(rt: &HostRuntime) -> Result<(), Failure> {
     }
 }
 
-fn main(rt: HostRuntime) -> Result<(), Failure> {
+fn main(rt: HostRuntime) -> ExitCode {
     match execute(&rt) {
-        Ok(()) => Ok(()),
-        Err(Failure::Told) => Err(Failure::Told),
+        Ok(()) => ExitCode::SUCCESS,
+        Err(Failure::Told) => ExitCode::FAILURE,
         Err(failure) => {
             let _ = eprintln!(rt; "ial: {failure}");
-            Err(failure)
+            ExitCode::FAILURE
         }
     }
 }

@@ -6,6 +6,7 @@ use code::sizes::Sizes;
 use machine::fault::RunFault;
 use machine::status::{Standing, Status};
 use std::io;
+use std::io::IsTerminal;
 
 // One advance: the steps asked for and those made.
 #[derive(Clone, Copy)]
@@ -16,7 +17,7 @@ pub struct Slice {
 
 // The count of steps on standard error, where that is a terminal.
 pub(crate) fn progress(rt: &HostRuntime, count: u64) {
-    if libc::isatty(2) == 1 {
+    if rt.stderr().is_terminal() {
         let _ = eprint!(rt; "\r{count} steps");
     }
 }
@@ -30,7 +31,7 @@ pub(crate) fn print<F: Shown>(
     cells: &[F],
     book: &[F],
 ) -> io::Result<()> {
-    if libc::isatty(2) == 1 {
+    if rt.stderr().is_terminal() {
         let _ = rt.eprint("\r");
     }
     if json {
