@@ -51,7 +51,7 @@ module _ (v : View) (rs : List Record) (t : Program) (same_names : named_words v
         second = second;
         named = cells_are;
         cells = counted.cells ∙ ap (λ (m : ℕ). min (m + length (fors t)) 2049) cells_are;
-        too-many =
+        too_many =
             told
             ∙ all_claims (numbered (occurrences t) 0 (names_in v)) (fors t) named.offence all.offence
             (places.told ∙ ap (λ (ks : List Claim). earliest_of (passing_claims 0 ks)) p.claims)
