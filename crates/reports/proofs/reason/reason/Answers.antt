@@ -42,5 +42,5 @@ returns-in-12 c = sym (ap reason_of c.in-12.is)
 pub returns-in-13 : goal.returns-in-13
 returns-in-13 c = sym (ap reason_of c.in-13.is)
 
-pub returns-in-default : goal.returns-in-default
-returns-in-default c = other_numbers_have_none c.args.number (λ h. omega arith)
+pub returns-in_default : goal.returns-in_default
+returns-in_default c = other_numbers_have_none c.args.number (λ h. omega arith)
