@@ -1,24 +1,23 @@
 -- From the name table filled for a sentence that was read to what is told of the text.
-use Rattle.std.proofs.Common.{◌≡◌, ℕ, ◌+◌, ◌-◌, ◌≤◌, min, List, map, length, take, Some, None, Option, sym, refl, ap, ◌∙◌, subst, arith}
+use Rattle.std.proofs.Common.{◌≡◌, ℕ, ◌+◌, ◌-◌, ◌≤◌, min, List, map, length, take, Some, None, sym, ap, ◌∙◌, subst, arith}
 use Rattle.std.proofs.lemmas.List.{take_min}
 use Rattle.words.specs.Token.{Word}
 use Rattle.words.specs.declared.word.Word.{Word as WordRecord}
-use Rattle.words.specs.Words.{Words, words_of}
 use Rattle.words.specs.Records.{word_in}
 use Rattle.grammar.specs.Tree.{Program}
 use Rattle.grammar.specs.Meaning.{Sentence}
-use Rattle.grammar.specs.Parser.{Outcome, tree, parsed, initial}
+use Rattle.grammar.specs.Parser.{tree, parsed, initial}
 use Rattle.grammar.proofs.Sound.{run_at}
 use Rattle.parser.specs.declared.node.Node.{Node}
 use Rattle.parser.specs.declared.parse.Sentence.{Sentence as SentenceRecord}
 use Rattle.parser.specs.declared.table.Record.{Record}
-use Rattle.parser.specs.Records.{View, words, nodes, ProgramAt}
+use Rattle.parser.specs.Records.{View, nodes, ProgramAt}
 use Rattle.parser.specs.Reading.{SentenceRead}
 use Rattle.symbols.specs.Occurrences.{occurrences, fors}
-use Rattle.symbols.specs.Symbols.{Symbol, symbols, named_cells, hidden_cells}
+use Rattle.symbols.specs.Symbols.{symbols, named_cells, hidden_cells}
 use Rattle.symbols.specs.Rules.{Verdict, accepted as names_accepted, refused as names_refused, verdict}
 use Rattle.symbols.specs.Refusal.{number}
-use Rattle.symbols.specs.Texts.{accepted, refused, of_verdict, of_sentence, of_words, answer}
+use Rattle.symbols.specs.Texts.{refused, of_verdict, of_sentence, of_words, answer}
 use Rattle.symbols.proofs.Cells.{enough_cells}
 use Rattle.analysis.specs.declared.symbol.NameRecord.{NameRecord}
 use Rattle.analysis.specs.declared.name_table.NameTable.{NameTable}
@@ -29,7 +28,7 @@ use Rattle.analysis.specs.LabelSets.{SmallTable}
 use Rattle.analysis.specs.NameLines.{HoldsPlaces}
 use Rattle.analysis.specs.Numbering.{view_of}
 use Rattle.analysis.specs.SymbolTable.{HoldsSymbols}
-use Rattle.analysis.specs.Verdicts.{OffencesOf, Decides, verdict_in}
+use Rattle.analysis.specs.Verdicts.{OffencesOf, verdict_in}
 use Rattle.analysis.proofs.FewLines.{small_tables}
 use Rattle.analysis.proofs.NameLines.{places_held}
 use Rattle.reading.specs.Reading.{TextRead, view}

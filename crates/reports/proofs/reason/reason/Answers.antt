@@ -1,4 +1,4 @@
-use Rattle.std.proofs.Common.{◌≡◌, sym, ap, arith}
+use Rattle.std.proofs.Common.{sym, ap, arith}
 use Rattle.reports.specs.Reasons.{reason_of}
 use Rattle.reports.proofs.Reasons.{other_numbers_have_none}
 use Rattle.reports.proofs.reason.reason.Goals as goal

@@ -1,4 +1,4 @@
-use Rattle.std.proofs.Common.{◌≡◌, ◌<◌, ◌≤◌, length, sym, ◌∙◌, arith}
+use Rattle.std.proofs.Common.{◌<◌, ◌≤◌, length, sym, ◌∙◌, arith}
 use Rattle.reports.proofs.SettingSteps.{found_here, not_here, at_end}
 use Rattle.reports.proofs.settings.cell_of_name.Goals as goal
 
