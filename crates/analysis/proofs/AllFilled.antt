@@ -1,5 +1,5 @@
 -- All steps together fill the table of a tree whose names are those of the words.
-use Rattle.std.proofs.Common.{◌≡◌, ℕ, suc, ◌+◌, ◌≤◌, min, List, [], ◌∷◌, ◌++◌, map, length, take, Option, sym, refl, ap, ◌∙◌, subst, arith}
+use Rattle.std.proofs.Common.{◌≡◌, ℕ, suc, ◌+◌, ◌≤◌, min, List, [], ◌∷◌, ◌++◌, length, take, Option, sym, refl, ap, ◌∙◌, subst, arith}
 use Rattle.std.proofs.lemmas.List.{length-take-le, take_at}
 use Rattle.grammar.specs.Tree.{Name, Program}
 use Rattle.parser.specs.declared.table.Record.{Record}
@@ -10,14 +10,13 @@ use Rattle.symbols.specs.Rules.{Claim, passing_claims, second_definitions}
 use Rattle.symbols.specs.TextOrder.{named_words, names_of}
 use Rattle.analysis.specs.declared.symbol.NameRecord.{NameRecord}
 use Rattle.analysis.specs.declared.cell_count.CellCount.{CellCount}
-use Rattle.analysis.specs.declared.name_table.NameTable.{NameTable}
 use Rattle.analysis.specs.Earliest.{earliest_of, earlier_of}
 use Rattle.analysis.specs.SymbolTable.{LinesAt}
 use Rattle.analysis.specs.Lines.{NumberedWords, SoFar}
 use Rattle.analysis.specs.Numbering.{names_among, names_in}
 use Rattle.analysis.specs.Counting.{cells_of, placed, for_claims, Counts, PlacesCells}
 use Rattle.analysis.specs.Filling.{Filled}
-use Rattle.analysis.proofs.FilledTable.{names_from_among, name_claim, length_numbered, first_lines, holds, all_claims}
+use Rattle.analysis.proofs.FilledTable.{names_from_among, length_numbered, first_lines, holds, all_claims}
 
 length_placed : (c : ℕ) (lines : List NameRecord) → length (placed c lines) ≡ length lines
 length_placed c [] = refl
@@ -51,7 +50,7 @@ module _ (v : View) (rs : List Record) (t : Program) (same_names : named_words v
         second = second;
         named = cells_are;
         cells = counted.cells ∙ ap (λ (m : ℕ). min (m + length (fors t)) 2049) cells_are;
-        too-many =
+        too_many =
             told
             ∙ all_claims (numbered (occurrences t) 0 (names_in v)) (fors t) named.offence all.offence
             (places.told ∙ ap (λ (ks : List Claim). earliest_of (passing_claims 0 ks)) p.claims)

@@ -1,12 +1,11 @@
 -- Heeding the declarations of items at a node, by what the node is.
-use Rattle.std.proofs.Common.{◌≡◌, ℕ, ◌<◌, List, [], ◌∷◌, ◌++◌, None, Option, refl}
+use Rattle.std.proofs.Common.{◌≡◌, ℕ, ◌<◌, List, [], ◌∷◌, None, Option, refl}
 use Rattle.symbols.specs.declared.value_type.ValueType.TheVariants.{Integer as IntegerType, Boolean as BooleanType}
 use Rattle.parser.specs.declared.node.Node.{Node}
-use Rattle.parser.specs.declared.node.Node.TheVariants.{More, Labelled, Conditional, Repeated, Assigned, Go, Switched, Input, Printed, Stop, Comment, Integer, Boolean, Array, Switch}
-use Rattle.parser.specs.declared.table.Record.{Record}
-use Rattle.parser.specs.Records.{View, node, Named, NameAt, GroupAt, RowAt, Item_at}
-use Rattle.grammar.specs.Tree.{Row, one, more, Name, Group, Variable, value_of, Exp, Item, action}
-use Rattle.symbols.specs.Occurrences.{Role, as_label, as_switch, of_type, in_switch, as_variable, Occurrence, at, each, all_at, in_exp, in_element, in_group, in_item}
+use Rattle.parser.specs.declared.node.Node.TheVariants.{More, Labelled, Conditional, Repeated, Integer, Boolean, Array, Switch}
+use Rattle.parser.specs.Records.{View, Named, NameAt, GroupAt, RowAt, Item_at}
+use Rattle.grammar.specs.Tree.{Row, one, Name, Group, value_of, Item, action}
+use Rattle.symbols.specs.Occurrences.{as_label, as_switch, of_type, in_switch, as_variable, Occurrence, at, each, all_at, in_exp, in_element, in_group, in_item}
 use Rattle.analysis.specs.declared.symbol.NameRecord.{NameRecord}
 use Rattle.analysis.specs.declared.declaration.Pass.{Pass}
 use Rattle.analysis.specs.Earliest.{earlier_of}

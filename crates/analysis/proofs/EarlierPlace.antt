@@ -1,5 +1,5 @@
 -- The earliest place of two lists is the earlier of their earliest.
-use Rattle.std.proofs.Common.{◌≡◌, ℕ, min, Bool, List, [], ◌∷◌, ◌++◌, Some, None, Option, sym, refl, ap, ◌∙◌, arith}
+use Rattle.std.proofs.Common.{◌≡◌, ℕ, min, Bool, List, [], ◌∷◌, ◌++◌, Some, Option, sym, refl, ap, ◌∙◌, arith}
 use Rattle.symbols.specs.Types.{told}
 use Rattle.symbols.specs.Rules.{earliest}
 use Rattle.analysis.specs.Earliest.{earliest_of, earlier_of}

@@ -1,20 +1,18 @@
 -- The words of a work table with their lines, one after the other and all.
-use Rattle.std.proofs.Common.{◌≡◌, ℕ, ◌+◌, ◌<◌, ◌≤◌, min, ◌⊎◌, List, [], ◌∷◌, ◌++◌, map, length, get_or, take, drop, set, Some, None, Option, sym, refl, ap, ◌∙◌, subst, inl, inr, arith}
+use Rattle.std.proofs.Common.{◌≡◌, ℕ, ◌+◌, ◌<◌, ◌≤◌, min, ◌⊎◌, List, [], ◌∷◌, ◌++◌, map, length, get_or, take, set, Some, None, Option, sym, refl, ap, ◌∙◌, subst, inl, inr, arith}
 use Rattle.std.proofs.lemmas.List.{length-set, length-map, length-take, get_or-map, get_or-take, drop_all}
 use Rattle.words.specs.declared.word.Word.{Word as WordRecord}
-use Rattle.words.specs.declared.token.Token.{Token as TokenRecord}
 use Rattle.words.specs.declared.token.Token.TheVariants.{Name as NameToken}
 use Rattle.words.specs.Token.{Word}
 use Rattle.words.specs.Records.{word_in}
 use Rattle.grammar.specs.Tree.{Name}
 use Rattle.parser.specs.declared.table.Record.{Record}
-use Rattle.parser.specs.Records.{View, words, nodes, Named}
+use Rattle.parser.specs.Records.{View, words, nodes}
 use Rattle.symbols.specs.TextOrder.{named_words}
 use Rattle.analysis.specs.declared.symbol.NameRecord.{NameRecord}
-use Rattle.analysis.specs.SymbolTable.{line_numbers}
 use Rattle.analysis.specs.Letters.{word_letters}
 use Rattle.analysis.specs.LineSearch.{line_letters}
-use Rattle.analysis.specs.Lines.{line_of, word_places, NumberedWords, SoFar}
+use Rattle.analysis.specs.Lines.{NumberedWords, SoFar}
 use Rattle.analysis.specs.Numbering.{names_among, view_of, names_in, new_line, found_line, number_or, lines_with, WordsOf, Entered, EntersWord, AllEntered}
 use Rattle.analysis.proofs.LineOf.{index_found}
 use Rattle.analysis.proofs.Entering.{x as new_name, other_word, found_is, known_word, room_for_new, new_word}

@@ -1,7 +1,7 @@
 -- One word more has its line.
-use Rattle.std.proofs.Common.{◌≡◌, ℕ, suc, ◌+◌, ◌<◌, ◌≤◌, min, Bool, true, false, cond, ◌⊎◌, List, [], ◌∷◌, ◌++◌, map, length, get_or, take, drop, set, Some, None, Option, sym, refl, ap, ◌∙◌, subst, inl, inr, arith}
-use Rattle.std.proofs.lemmas.List.{length-set, length-map, length-take-le, length_push, get_or-set_same, get_or-set_other, get_or-map, get_or-take, get_or_append_left, get_or_push, get_or_default, map-append, drop_more, same_lists}
-use Rattle.std.proofs.lemmas.Bool.{cases_eq, cases_lt}
+use Rattle.std.proofs.Common.{◌≡◌, ℕ, ◌+◌, ◌<◌, ◌≤◌, Bool, cond, ◌⊎◌, List, [], ◌∷◌, ◌++◌, map, length, get_or, take, drop, set, Some, None, sym, refl, ap, ◌∙◌, subst, inl, inr, arith}
+use Rattle.std.proofs.lemmas.List.{length-set, length-map, length-take-le, length_push, get_or-set_same, get_or-set_other, get_or-map, get_or-take, get_or_append_left, get_or_push, map-append, drop_more, same_lists}
+use Rattle.std.proofs.lemmas.Bool.{cases_eq}
 use Rattle.words.specs.declared.word.Word.{Word as WordRecord}
 use Rattle.words.specs.declared.token.Token.{Token as TokenRecord}
 use Rattle.words.specs.declared.token.Token.TheVariants.{Name as NameToken, Number, Keyword, Mark, Sign, Scaling, Relation}
@@ -9,16 +9,15 @@ use Rattle.words.specs.Token.{Token, Word, name}
 use Rattle.words.specs.Records.{token_in, word_in}
 use Rattle.grammar.specs.Tree.{Name}
 use Rattle.parser.specs.declared.table.Record.{Record}
-use Rattle.parser.specs.Records.{View, words, nodes, Named}
-use Rattle.symbols.specs.Symbols.{has_name, with_name}
+use Rattle.parser.specs.Records.{View, words, Named}
+use Rattle.symbols.specs.Symbols.{with_name}
 use Rattle.symbols.specs.TextOrder.{name_at, named_words}
 use Rattle.analysis.specs.declared.symbol.NameRecord.{NameRecord}
 use Rattle.analysis.specs.SymbolTable.{variable, line_numbers}
 use Rattle.analysis.specs.Letters.{token_letters, letters_in, word_letters}
 use Rattle.analysis.specs.LineSearch.{line_from, line_letters}
-use Rattle.analysis.specs.Lines.{letters_of, line_of, LineSoFar, SoFar}
-use Rattle.analysis.specs.Numbering.{names_among, names_in, new_line, found_line, number_or, lines_with, WordsOf, Entered}
-use Rattle.analysis.proofs.LineOf.{known_line}
+use Rattle.analysis.specs.Lines.{letters_of, line_of, LineSoFar}
+use Rattle.analysis.specs.Numbering.{names_among, names_in, new_line, found_line, WordsOf, Entered}
 use Rattle.analysis.proofs.NewNames.{found_has, none_has, index_append, index_push, among_grows}
 use Rattle.analysis.proofs.WorkTable.{numbers_set, length_words, length_numbers}
 

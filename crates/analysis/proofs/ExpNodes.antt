@@ -1,5 +1,5 @@
 -- What expression can stand at a node, and what elements.
-use Rattle.std.proofs.Common.{◌≡◌, ℕ, ◌<◌, true, List, sym, refl, ap, ◌∙◌, subst}
+use Rattle.std.proofs.Common.{◌≡◌, ℕ, true, List, refl, subst}
 use Rattle.std.proofs.lemmas.Bool.{lt-ltb}
 use Rattle.words.specs.declared.token.Relation.{Relation}
 use Rattle.grammar.specs.declared.operator.Operator.{Operator}

@@ -1,24 +1,23 @@
 -- The lines of the filled table are those of the symbol table.
-use Rattle.std.proofs.Common.{◌≡◌, ℕ, zero, suc, ◌+◌, ◌<◌, ◌≤◌, min, Bool, true, false, cond, List, [], ◌∷◌, ◌++◌, map, length, get_or, take, Some, None, Option, sym, refl, ap, ◌∙◌, subst, arith}
+use Rattle.std.proofs.Common.{◌≡◌, ℕ, zero, suc, ◌+◌, ◌<◌, Bool, true, false, cond, List, [], ◌∷◌, map, length, get_or, take, Some, Option, sym, refl, ap, ◌∙◌, subst, arith}
 use Rattle.std.specs.List.{slice_get}
 use Rattle.std.specs.Str.{bytes_eq}
 use Rattle.std.proofs.lemmas.List.{length-take-le, get_or-take}
-use Rattle.grammar.specs.Tree.{Name, Program}
+use Rattle.grammar.specs.Tree.{Name}
 use Rattle.parser.specs.declared.table.Record.{Record}
-use Rattle.parser.specs.Records.{View, nodes, Named}
+use Rattle.parser.specs.Records.{View}
 use Rattle.symbols.specs.Occurrences.{Occurrence}
 use Rattle.symbols.specs.Symbols.{Kind, kind_of, cells, Symbol, count, line, numbered, names_from, with_name, lookup, named_cells}
 use Rattle.symbols.specs.Rules.{Claim, claims, passing_claims}
 use Rattle.symbols.specs.TextOrder.{names_of}
 use Rattle.analysis.specs.declared.symbol.NameKind.{NameKind}
 use Rattle.analysis.specs.declared.symbol.NameRecord.{NameRecord}
-use Rattle.analysis.specs.declared.cell_count.CellCount.{CellCount}
 use Rattle.analysis.specs.Earliest.{earliest_of, earlier_of}
 use Rattle.analysis.specs.LineSearch.{line_from}
-use Rattle.analysis.specs.SymbolTable.{KindAt, label, switch, array, variable, LineAt, LinesAt, none, one_more, line_numbers, Numbered, HoldsSymbols}
-use Rattle.analysis.specs.Lines.{letters_of, line_of, word_places, NumberedWords, LineSoFar, SoFar}
+use Rattle.analysis.specs.SymbolTable.{KindAt, label, switch, array, variable, LinesAt, none, one_more, line_numbers, HoldsSymbols}
+use Rattle.analysis.specs.Lines.{letters_of, word_places, NumberedWords, LineSoFar, SoFar}
 use Rattle.analysis.specs.Numbering.{names_among}
-use Rattle.analysis.specs.Counting.{cells_of, cells_in, placed, line_claims, for_claims, Counts, PlacesCells}
+use Rattle.analysis.specs.Counting.{cells_of, cells_in, placed, line_claims, for_claims}
 use Rattle.analysis.proofs.EarlierPlace.{both}
 use Rattle.analysis.proofs.LineOf.{index_found, known_line}
 use Rattle.analysis.proofs.Claims.{claimed, passing_append}

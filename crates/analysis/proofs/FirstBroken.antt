@@ -1,5 +1,5 @@
 -- A rule's earliest offence decides whether it is told.
-use Rattle.std.proofs.Common.{◌≡◌, ℕ, List, [], ◌∷◌, Some, None, Option, sym, refl, ap, ◌∙◌}
+use Rattle.std.proofs.Common.{◌≡◌, ℕ, List, [], ◌∷◌, Option, refl, ap, ◌∙◌}
 use Rattle.symbols.specs.declared.refusal.NameRefusal.{NameRefusal}
 use Rattle.symbols.specs.Rules.{Verdict, or_next}
 use Rattle.analysis.specs.declared.offence.Broken.{Broken}

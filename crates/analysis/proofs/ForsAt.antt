@@ -1,9 +1,9 @@
 -- The fors of items at a node, by what the node is.
-use Rattle.std.proofs.Common.{◌≡◌, ℕ, ◌+◌, min, List, [], ◌∷◌, ◌++◌, None, Option, refl}
+use Rattle.std.proofs.Common.{◌≡◌, ℕ, min, [], ◌∷◌, None, Option, refl}
 use Rattle.parser.specs.declared.node.Node.{Node}
 use Rattle.parser.specs.declared.node.Node.TheVariants.{More, Labelled, Conditional, Repeated}
 use Rattle.parser.specs.Records.{View, RowAt, Item_at}
-use Rattle.grammar.specs.Tree.{Row, one, more, Item, action}
+use Rattle.grammar.specs.Tree.{Row, one, Item, action}
 use Rattle.symbols.specs.Occurrences.{each, item_fors}
 use Rattle.analysis.specs.declared.cell_count.CellCount.{CellCount}
 use Rattle.analysis.specs.Earliest.{earlier_of}

@@ -1,9 +1,8 @@
 -- Heeding one part after another, and parts that declare nothing.
-use Rattle.std.proofs.Common.{◌≡◌, ℕ, ◌<◌, ◌≤◌, List, [], ◌∷◌, ◌++◌, length, get_or, Some, None, Option, sym, refl, ap, ◌∙◌, subst, append_assoc, append-nil}
+use Rattle.std.proofs.Common.{◌≡◌, ℕ, List, [], ◌∷◌, ◌++◌, get_or, Some, None, Option, sym, refl, ap, ◌∙◌, subst, append_assoc, append-nil}
 use Rattle.grammar.specs.Tree.{Name}
 use Rattle.parser.specs.Records.{View}
-use Rattle.symbols.specs.declared.value_type.ValueType.{ValueType}
-use Rattle.symbols.specs.Occurrences.{Role, Occurrence}
+use Rattle.symbols.specs.Occurrences.{Occurrence}
 use Rattle.symbols.specs.Symbols.{Kind, definition, declared_type, first_said, or_variable, or_untyped}
 use Rattle.symbols.specs.Types.{told}
 use Rattle.symbols.specs.Rules.{is_some, target, defines_again, second_definitions}
@@ -12,7 +11,7 @@ use Rattle.analysis.specs.declared.declaration.Pass.{Pass}
 use Rattle.analysis.specs.declared.declaration.Pass.TheVariants.{Mark, Declare}
 use Rattle.analysis.specs.Earliest.{earliest_of, earlier_of}
 use Rattle.analysis.specs.SymbolTable.{KindAt}
-use Rattle.analysis.specs.Lines.{LineSoFar, SoFar}
+use Rattle.analysis.specs.Lines.{LineSoFar}
 use Rattle.analysis.specs.Heeding.{TableAt, told_in, Heeds}
 use Rattle.analysis.proofs.EarlierPlace.{both}
 use Rattle.analysis.proofs.Said.{Silent, use_defines_nothing, use_types_nothing, use_is_no_target, said_before, silent_told}

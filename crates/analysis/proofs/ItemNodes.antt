@@ -1,12 +1,12 @@
 -- What items can stand at a node. A node that joins two is a row's last item behind the others, or two statements in
 -- sequence.
-use Rattle.std.proofs.Common.{◌≡◌, ℕ, ◌<◌, true, List, ◌++◌, Option, sym, refl, ap, ◌∙◌, subst}
+use Rattle.std.proofs.Common.{◌≡◌, ℕ, true, List, ◌++◌, Option, sym, refl, ap, ◌∙◌, subst}
 use Rattle.std.proofs.lemmas.Bool.{lt-ltb}
 use Rattle.grammar.specs.Tree.{Row, one, more, Name, Exp, Variable, Element, Statement, labelled, conditional, repeated, assigned, go, switched, input, printed, stop, sequence, Group, Item, comment, integer, boolean, array, switch, action}
 use Rattle.parser.specs.declared.node.Node.{Node}
 use Rattle.parser.specs.declared.node.Node.TheVariants.{More, Labelled, Conditional, Repeated, Assigned, Go, Switched, Input, Printed, Stop, Comment, Integer, Boolean, Array, Switch}
 use Rattle.parser.specs.declared.table.Record.{Record}
-use Rattle.parser.specs.Records.{View, nodes, node, Named, ExpAt, VariableAt, ElementAt, NameAt, RowAt, GroupAt, Item_at, StatementAt}
+use Rattle.parser.specs.Records.{View, nodes, node, Named, ExpAt, VariableAt, ElementAt, NameAt, RowAt, Item_at, StatementAt}
 use Rattle.symbols.specs.Occurrences.{each}
 use Rattle.analysis.specs.Views.{node_of}
 use Rattle.analysis.specs.Ordered.{are_before, ordered}

@@ -6,9 +6,8 @@ use Rattle.words.specs.Records.{word_in}
 use Rattle.grammar.specs.Tree.{Name}
 use Rattle.parser.specs.declared.table.Record.{Record}
 use Rattle.parser.specs.Records.{words, View, Named}
-use Rattle.symbols.specs.declared.value_type.ValueType.{ValueType}
 use Rattle.symbols.specs.declared.value_type.ValueType.TheVariants.{Untyped}
-use Rattle.symbols.specs.Symbols.{Kind, a_variable, Symbol, lookup, said, kind_in, type_in}
+use Rattle.symbols.specs.Symbols.{Kind, a_variable, Symbol, said, kind_in, type_in}
 use Rattle.analysis.specs.declared.symbol.NameKind.{NameKind}
 use Rattle.analysis.specs.declared.symbol.NameRecord.{NameRecord}
 use Rattle.analysis.specs.SymbolTable.{LineAt, KindAt, LinesAt, none, one_more, line_numbers, Numbered, HoldsSymbols}

@@ -1,12 +1,12 @@
 -- What row of names can stand at a node.
-use Rattle.std.proofs.Common.{◌≡◌, ℕ, ◌<◌, List, refl, subst}
+use Rattle.std.proofs.Common.{◌≡◌, ℕ, List, refl, subst}
 use Rattle.grammar.specs.Tree.{Row, one, more, Name}
 use Rattle.parser.specs.declared.node.Node.{Node}
 use Rattle.parser.specs.declared.node.Node.TheVariants.{Simple, More}
 use Rattle.parser.specs.declared.table.Record.{Record}
-use Rattle.parser.specs.Records.{View, nodes, node, Named, NameAt, RowAt}
+use Rattle.parser.specs.Records.{View, nodes, Named, NameAt, RowAt}
 use Rattle.analysis.specs.Views.{node_of}
-use Rattle.analysis.specs.Ordered.{are_before, ordered}
+use Rattle.analysis.specs.Ordered.{ordered}
 use Rattle.analysis.proofs.Stands.{stands, two_before}
 
 pub data NamesNode (v : View) : Node → Row Name → Type 0 where

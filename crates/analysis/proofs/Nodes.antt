@@ -1,7 +1,6 @@
 -- Reading the parts of a record of a table: within the table a part is its record's, past the table there is none.
 use Rattle.std.proofs.Common.{◌≡◌, ℕ, zero, suc, ◌<◌, ◌≤◌, List, [], ◌∷◌, map, length, get_or, refl, arith}
 use Rattle.parser.specs.declared.table.Record.{Record}
-use Rattle.parser.specs.declared.node.Node.{Node}
 use Rattle.parser.specs.declared.node.Node.TheVariants.{Empty}
 use Rattle.parser.specs.Records.{nodes, words}
 use Rattle.analysis.specs.Letters.{letters_in}

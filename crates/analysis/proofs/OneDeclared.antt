@@ -4,9 +4,9 @@ use Rattle.std.proofs.lemmas.List.{length-set, get_or-set_same, get_or-set_other
 use Rattle.std.proofs.lemmas.Bool.{both_ways, cases_eq}
 use Rattle.grammar.specs.Tree.{Name}
 use Rattle.parser.specs.declared.table.Record.{Record}
-use Rattle.parser.specs.Records.{View, Named, bound_in}
+use Rattle.parser.specs.Records.{View, bound_in}
 use Rattle.symbols.specs.declared.value_type.ValueType.{ValueType}
-use Rattle.symbols.specs.declared.value_type.ValueType.TheVariants.{Untyped, Integer, Boolean}
+use Rattle.symbols.specs.declared.value_type.ValueType.TheVariants.{Integer, Boolean}
 use Rattle.symbols.specs.Occurrences.{Role, as_label, as_switch, as_array, of_type, Occurrence, at}
 use Rattle.symbols.specs.Symbols.{Kind, a_label, a_switch, an_array, definition, declared_type, or_else, first_said, or_variable, or_untyped}
 use Rattle.symbols.specs.Types.{told}
@@ -19,7 +19,7 @@ use Rattle.analysis.specs.declared.declaration.Declaration.TheVariants.{Defined,
 use Rattle.analysis.specs.declared.declaration.Pass.{Pass}
 use Rattle.analysis.specs.declared.declaration.Pass.TheVariants.{Mark, Declare}
 use Rattle.analysis.specs.Earliest.{earliest_of}
-use Rattle.analysis.specs.SymbolTable.{KindAt, label as label_line, switch as switch_line, array as array_line, line_numbers}
+use Rattle.analysis.specs.SymbolTable.{KindAt, label as label_line, switch as switch_line, array as array_line}
 use Rattle.analysis.specs.Kinds.{is_defined_kind, is_target_kind, is_typed_as}
 use Rattle.analysis.specs.Lines.{line_of, NumberedWords, LineSoFar, SoFar}
 use Rattle.analysis.specs.Heeding.{marked_line, declared_line, offends_line, RoleAt, label, switch, array, integer, boolean, TableAt, Heeds}

@@ -24,3 +24,7 @@ part_is xs p n s m e f =
     let l : length (drop s xs) ≡ length xs - s = length-drop s xs in
     let g : m ≡ min n (length (drop s xs)) = omega arith in
     ap (λ (k : ℕ). take k (drop s xs)) a ∙ (take_min (drop s xs) n m g ∙ ap (λ (ys : List ℕ). take n ys) (drop_min xs p s e))
+
+-- The same of a part that is told by its two ends.
+pub part_to : (xs : List ℕ) (p n s e : ℕ) → s ≡ min p (length xs) → e ≡ s + min n (length xs - s) → take (e - s) (drop s xs) ≡ take n (drop p xs)
+part_to xs p n s e a b = ap (λ (k : ℕ). take (k - s) (drop s xs)) b ∙ part_is xs p n s (min n (length xs - s)) a refl

@@ -1,11 +1,10 @@
 -- One line more has its first cell.
-use Rattle.std.proofs.Common.{◌≡◌, ℕ, ◌+◌, ◌<◌, ◌≤◌, Bool, true, false, ◌&&◌, ltb, leb, List, [], ◌∷◌, ◌++◌, length, get_or, take, drop, set, Some, None, Option, sym, refl, ap, ◌∙◌, append_assoc, append-nil, arith}
+use Rattle.std.proofs.Common.{◌≡◌, ℕ, ◌+◌, ◌<◌, ◌≤◌, ◌&&◌, ltb, leb, List, [], ◌∷◌, ◌++◌, length, get_or, take, drop, set, Some, None, Option, sym, refl, ap, ◌∙◌, append_assoc, append-nil, arith}
 use Rattle.std.proofs.lemmas.List.{take_more_set, drop_more, drop-set-lt, drop_all, take_all}
 use Rattle.parser.specs.declared.table.Record.{Record}
 use Rattle.symbols.specs.Types.{told}
-use Rattle.symbols.specs.Rules.{Claim, passing_claims}
+use Rattle.symbols.specs.Rules.{passing_claims}
 use Rattle.analysis.specs.declared.symbol.NameRecord.{NameRecord}
-use Rattle.analysis.specs.declared.cell_count.CellCount.{CellCount}
 use Rattle.analysis.specs.Earliest.{earliest_of, earlier_of}
 use Rattle.analysis.specs.Lines.{word_places}
 use Rattle.analysis.specs.Counting.{cells_of, cells_in, with_first, placed, line_claims, PlacesCells}

@@ -1,11 +1,10 @@
 -- Rows of names and of groups at a node, one part at a time.
-use Rattle.std.proofs.Common.{◌≡◌, ℕ, ◌<◌, List, [], ◌∷◌, ◌++◌, Option, sym, refl, ap, ◌∙◌, subst, arith}
-use Rattle.parser.specs.declared.node.Node.{Node}
+use Rattle.std.proofs.Common.{◌≡◌, ℕ, ◌<◌, List, Option, ap, ◌∙◌, subst, arith}
 use Rattle.parser.specs.declared.node.Node.TheVariants.{Simple, More, Group as GroupNode}
 use Rattle.parser.specs.declared.node.Bound.{Bound as BoundRecord}
 use Rattle.parser.specs.Records.{View, node, bound_in, Named, NameAt, GroupAt, RowAt}
 use Rattle.grammar.specs.Tree.{Row, one, more, Name, Group}
-use Rattle.symbols.specs.Occurrences.{Role, as_array, Occurrence, at, each, all_at, in_group}
+use Rattle.symbols.specs.Occurrences.{Role, as_array, Occurrence, each}
 use Rattle.analysis.specs.declared.symbol.NameKind.TheVariants.{Array}
 use Rattle.analysis.specs.declared.symbol.NameRecord.{NameRecord}
 use Rattle.analysis.specs.declared.declaration.Declaration.TheVariants.{Defined}

@@ -1,7 +1,7 @@
 -- The parts of a tree in which names are used and none is declared.
-use Rattle.std.proofs.Common.{◌≡◌, List, [], ◌∷◌, ◌++◌, refl}
-use Rattle.grammar.specs.Tree.{Row, one, more, Name, Exp, literal, simple, subscripted, prefixed, joined, bracketed, compared, Variable, value_of, Element, single, progression}
-use Rattle.symbols.specs.Occurrences.{Role, in_switch, Occurrence, at, each, all_at, in_exp, in_element}
+use Rattle.std.proofs.Common.{List, [], ◌∷◌, ◌++◌, refl}
+use Rattle.grammar.specs.Tree.{Row, one, more, Name, Exp, literal, simple, subscripted, prefixed, joined, bracketed, compared, Element, single, progression}
+use Rattle.symbols.specs.Occurrences.{in_switch, Occurrence, at, each, all_at, in_exp, in_element}
 use Rattle.analysis.proofs.Said.{Silent}
 
 pub silent_append : (os ps : List Occurrence) → Silent os → Silent ps → Silent (os ++ ps)

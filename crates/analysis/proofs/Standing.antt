@@ -1,8 +1,8 @@
 -- What tree can stand at a node: for each node the items or statements that it can be.
-use Rattle.std.proofs.Common.{◌≡◌, ℕ, ◌<◌, List, sym, refl, subst}
+use Rattle.std.proofs.Common.{◌≡◌, ℕ, ◌<◌, sym, subst}
 use Rattle.parser.specs.declared.node.Node.{Node}
 use Rattle.parser.specs.declared.node.Node.TheVariants.{More, Labelled, Conditional, Repeated, Assigned, Go, Switched, Input, Printed, Stop, Comment, Integer, Boolean, Array, Switch}
-use Rattle.parser.specs.Records.{View, node, Named, NameAt, GroupAt, RowAt, ElementAt, Item_at, StatementAt}
+use Rattle.parser.specs.Records.{View, node, Named, NameAt, GroupAt, RowAt, Item_at}
 use Rattle.grammar.specs.Tree.{Row, one, more, Name, Exp, Variable, Element, Group, Statement, labelled, conditional, repeated, assigned, go, switched, input, printed, stop, sequence, Item, comment, integer, boolean, array, switch, action}
 
 -- The items t stand at node i, which is n; their parts that hold statements or names stand before it.

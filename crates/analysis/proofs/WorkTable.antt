@@ -1,5 +1,5 @@
 -- The work table where a word gets the number of its line: words and nodes stay.
-use Rattle.std.proofs.Common.{◌≡◌, ℕ, zero, suc, ◌<◌, List, [], ◌∷◌, length, get_or, set, sym, refl, ap, ◌∙◌, arith}
+use Rattle.std.proofs.Common.{◌≡◌, ℕ, zero, suc, ◌<◌, List, [], ◌∷◌, length, get_or, set, refl, ap, arith}
 use Rattle.words.specs.declared.word.Word.{Word as WordRecord}
 use Rattle.parser.specs.declared.node.Node.{Node}
 use Rattle.parser.specs.declared.table.Record.{Record}

@@ -1,5 +1,5 @@
 -- The answer for a tree from the earliest offence against each rule.
-use Rattle.std.specs.Prelude.{◌≡◌, ℕ, List, Some, None, Option}
+use Rattle.std.specs.Prelude.{◌≡◌, ℕ, Some, None, Option}
 use Rattle.grammar.specs.Tree.{Program}
 use Rattle.symbols.specs.declared.refusal.NameRefusal.{NameRefusal}
 use Rattle.symbols.specs.declared.refusal.NameRefusal.TheVariants.{SecondDefinition, MisusedName, WrongType, JumpIntoFor, WrongBounds, TooManyCells}

@@ -1,3 +1,5 @@
+#![tactic(auto)]
+
 // Reads each text of the file `texts` and prints what the reading says of it, a line each. The file has the texts one after
 // the other, each ended by a byte 0.
 

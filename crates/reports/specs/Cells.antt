@@ -1,6 +1,6 @@
 -- The cells of a name, from its line of the symbol table: a simple variable has one, an array one for each subscript,
 -- labels and switches have none. The cells of a line are those that specs/Symbols.antt of the crate symbols counts.
-use Rattle.std.specs.Prelude.{ℕ, List, take, drop, ℤ, pos, Some, None, Option}
+use Rattle.std.specs.Prelude.{ℕ, List, take, drop, pos, Some, None, Option}
 use Rattle.parser.specs.Records.{bound_in}
 use Rattle.symbols.specs.Symbols.{bound_value, extent}
 use Rattle.analysis.specs.declared.symbol.NameKind.{NameKind}

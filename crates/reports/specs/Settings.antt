@@ -1,6 +1,6 @@
 -- Which cell a setting names: a simple variable by its name alone, an array's element by the name and a subscript within
 -- the bounds. Letters stand for the first line that has them.
-use Rattle.std.specs.Prelude.{ℕ, ◌+◌, ◌-◌, ◌^◌, min, Bool, cond, ◌&&◌, List, [], ◌∷◌, ℤ, ◌-ℤ◌, Some, None, Ok, Err, codes, Option, Result, int_le}
+use Rattle.std.specs.Prelude.{ℕ, ◌+◌, ◌-◌, ◌^◌, min, cond, ◌&&◌, List, [], ◌∷◌, ℤ, ◌-ℤ◌, Some, None, Ok, Err, codes, Option, Result, int_le}
 use Rattle.std.specs.Str.{bytes_eq}
 use Rattle.parser.specs.declared.table.Record.{Record}
 use Rattle.parser.specs.Records.{bound_in}

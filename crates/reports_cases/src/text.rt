@@ -39,6 +39,7 @@ fn line(word: usize, kind: NameKind, value_type: ValueType, first: usize) -> Nam
         value_type,
         first,
         place: 0,
+        target: matches!(kind, NameKind::Label | NameKind::Switch(_)),
     }
 }
 

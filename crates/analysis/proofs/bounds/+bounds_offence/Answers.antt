@@ -1,8 +1,7 @@
-use Rattle.std.proofs.Common.{◌≡◌, ℕ, ◌<◌, List, get_or, sym, ap, ◌∙◌, arith}
+use Rattle.std.proofs.Common.{◌≡◌, List, get_or, sym, ap, ◌∙◌, arith}
 use Rattle.parser.specs.declared.node.Node.{Node}
 use Rattle.parser.specs.declared.node.Node.TheVariants.{Empty, More, Array}
 use Rattle.parser.specs.Records.{node}
-use Rattle.symbols.specs.Rules.{item_bounds}
 use Rattle.analysis.proofs.Rows.{items_at, items_joined, items_before, items_arrays, items_plain}
 use Rattle.analysis.proofs.bounds.+bounds_offence.Goals as goal
 

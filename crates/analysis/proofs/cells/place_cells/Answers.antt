@@ -1,7 +1,7 @@
-use Rattle.std.proofs.Common.{◌≡◌, ℕ, ◌+◌, ◌*◌, ◌<◌, ◌≤◌, ◌&&◌, ltb, leb, length, sym, refl, ap, ◌∙◌, arith}
+use Rattle.std.proofs.Common.{◌≡◌, ℕ, ◌+◌, ◌<◌, ◌≤◌, ◌&&◌, ltb, leb, length, ap, ◌∙◌, arith}
 use Rattle.symbols.specs.Types.{told}
 use Rattle.analysis.specs.Earliest.{earliest_of}
-use Rattle.analysis.proofs.PlacedCells.{none_placed, one_placed, all_placed}
+use Rattle.analysis.proofs.PlacedCells.{one_placed, all_placed}
 use Rattle.analysis.proofs.cells.place_cells.Goals as goal
 
 pub loop-k-preserved : goal.loop-k-preserved

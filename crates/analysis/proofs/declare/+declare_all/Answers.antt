@@ -1,8 +1,7 @@
-use Rattle.std.proofs.Common.{◌≡◌, ℕ, ◌<◌, List, Option, sym, ◌∙◌, subst, arith}
+use Rattle.std.proofs.Common.{arith}
 use Rattle.symbols.specs.declared.value_type.ValueType.TheVariants.{Integer as IntegerType, Boolean as BooleanType}
-use Rattle.parser.specs.Records.{node}
-use Rattle.symbols.specs.Occurrences.{Occurrence, as_label, as_switch, of_type, each, in_item}
-use Rattle.analysis.specs.Heeding.{Heeds, label, switch, integer, boolean}
+use Rattle.symbols.specs.Occurrences.{as_label, as_switch, of_type}
+use Rattle.analysis.specs.Heeding.{label, switch, integer, boolean}
 use Rattle.analysis.proofs.Heeded.{heeds_as}
 use Rattle.analysis.proofs.NodeIs.{node_is}
 use Rattle.analysis.proofs.Standing.{stands_as}

@@ -1,8 +1,7 @@
-use Rattle.std.proofs.Common.{◌≡◌, ℕ, ◌<◌, List, Option, sym, ◌∙◌, subst, arith}
-use Rattle.parser.specs.declared.node.Node.TheVariants.{More, Group}
+use Rattle.std.proofs.Common.{◌≡◌, ℕ, sym, ◌∙◌, arith}
+use Rattle.parser.specs.declared.node.Node.TheVariants.{More}
 use Rattle.parser.specs.Records.{node, GroupAt}
-use Rattle.symbols.specs.Occurrences.{Occurrence, as_array, each, in_group}
-use Rattle.analysis.specs.Heeding.{Heeds}
+use Rattle.symbols.specs.Occurrences.{as_array, in_group}
 use Rattle.analysis.proofs.Heeded.{heeds_as}
 use Rattle.analysis.proofs.NodeIs.{node_is}
 use Rattle.analysis.proofs.RowsAt.{row_joined, row_before, row_single, group_never_joins, group_role, group_row}

@@ -1,9 +1,8 @@
-use Rattle.std.proofs.Common.{◌≡◌, ℕ, ◌<◌, List, [], ◌∷◌, Option, sym, ◌∙◌, subst, arith}
-use Rattle.grammar.specs.Tree.{Row, Name}
+use Rattle.std.proofs.Common.{◌≡◌, ℕ, [], ◌∷◌, sym, ◌∙◌, arith}
+use Rattle.grammar.specs.Tree.{Name}
 use Rattle.parser.specs.declared.node.Node.TheVariants.{More, Simple}
 use Rattle.parser.specs.Records.{node, NameAt}
-use Rattle.symbols.specs.Occurrences.{Occurrence, at, all_at}
-use Rattle.analysis.specs.Heeding.{Heeds}
+use Rattle.symbols.specs.Occurrences.{at}
 use Rattle.analysis.proofs.Heeded.{heeds_as}
 use Rattle.analysis.proofs.NodeIs.{node_is}
 use Rattle.analysis.proofs.RowsAt.{row_joined, row_before, row_single, name_never_joins, name_word}

@@ -1,9 +1,6 @@
-use Rattle.std.proofs.Common.{◌≡◌, ℕ, ◌≤◌, Bool, true, false, cond, List, [], ◌∷◌, Some, None, Option, sym, refl, ap, ◌∙◌, subst}
-use Rattle.symbols.specs.Occurrences.{Occurrence, at}
-use Rattle.analysis.specs.declared.symbol.NameRecord.{NameRecord}
-use Rattle.analysis.specs.declared.declaration.Pass.{Pass}
-use Rattle.analysis.specs.declared.declaration.Pass.TheVariants.{Mark, Declare}
-use Rattle.analysis.specs.Heeding.{TableAt, Heeds}
+use Rattle.std.proofs.Common.{◌≡◌, Bool, cond, List, Some, None, sym, ap, ◌∙◌}
+use Rattle.symbols.specs.Occurrences.{Occurrence}
+use Rattle.analysis.specs.Heeding.{TableAt}
 use Rattle.analysis.proofs.OneDeclared.{marks, declares, no_room}
 use Rattle.analysis.proofs.declare.declare.Goals as goal
 

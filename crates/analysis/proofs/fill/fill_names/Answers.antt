@@ -1,5 +1,4 @@
-use Rattle.std.proofs.Common.{◌≡◌, ℕ, ◌-◌, ◌*◌, ◌≤◌, List, [], length, take, sym, refl, ap, ◌∙◌, subst, arith}
-use Rattle.grammar.specs.Meaning.{names}
+use Rattle.std.proofs.Common.{◌≡◌, ℕ, ◌-◌, ◌≤◌, [], length, take, subst, arith}
 use Rattle.grammar.proofs.Names.{few}
 use Rattle.parser.specs.Records.{View}
 use Rattle.symbols.specs.Occurrences.{occurrences}

@@ -1,4 +1,4 @@
-use Rattle.std.proofs.Common.{◌≡◌, ℕ, ◌+◌, ◌<◌, min, sym, refl, ◌∙◌, arith}
+use Rattle.std.proofs.Common.{◌≡◌, ◌+◌, min, refl, arith}
 use Rattle.analysis.proofs.NodeIs.{node_is}
 use Rattle.analysis.proofs.Standing.{stands_as}
 use Rattle.analysis.proofs.Declared.{joined_before, labelled_before, condition_before, repetition_before}

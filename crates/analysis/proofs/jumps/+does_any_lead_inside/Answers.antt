@@ -1,4 +1,4 @@
-use Rattle.std.proofs.Common.{◌≡◌, ℕ, Bool, true, false, ◌||◌, List, sym, ap, ◌∙◌}
+use Rattle.std.proofs.Common.{◌≡◌, ℕ, Bool, ◌||◌, List, sym, ap, ◌∙◌}
 use Rattle.grammar.specs.Tree.{Row, one, Name}
 use Rattle.symbols.specs.Symbols.{Symbol}
 use Rattle.symbols.specs.Jumps.{leads_inside, some_name}

@@ -1,5 +1,4 @@
-use Rattle.std.proofs.Common.{◌≡◌, ℕ, Bool, not, ◌&&◌, List, sym, ap, ◌∙◌}
-use Rattle.grammar.specs.Tree.{Name}
+use Rattle.std.proofs.Common.{Bool, not, ◌&&◌, sym, ap, ◌∙◌}
 use Rattle.symbols.specs.Symbols.{kind_in}
 use Rattle.symbols.specs.Jumps.{is_label, is_among}
 use Rattle.analysis.specs.declared.name_use.NameUse.TheVariants.{AsTarget}

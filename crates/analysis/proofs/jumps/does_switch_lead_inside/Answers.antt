@@ -1,4 +1,3 @@
-use Rattle.std.proofs.Common.{◌≡◌}
 use Rattle.symbols.specs.Jumps.{leads_inside}
 use Rattle.analysis.proofs.JumpOffences.{switch_held, no_switch}
 use Rattle.analysis.proofs.jumps.does_switch_lead_inside.Goals as goal

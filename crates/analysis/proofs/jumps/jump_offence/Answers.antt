@@ -1,4 +1,4 @@
-use Rattle.std.proofs.Common.{◌≡◌, ℕ, List, [], subst, append-nil}
+use Rattle.std.proofs.Common.{ℕ, List, [], subst, append-nil}
 use Rattle.symbols.specs.Jumps.{outer_labels}
 use Rattle.analysis.specs.LabelSets.{Sees}
 use Rattle.analysis.proofs.jumps.jump_offence.Goals as goal

@@ -1,4 +1,4 @@
-use Rattle.std.proofs.Common.{◌≡◌, ℕ, Bool, List, [], ◌∷◌, ◌++◌, sym, refl, ap, ◌∙◌, subst, append_assoc}
+use Rattle.std.proofs.Common.{ℕ, Bool, List, ◌++◌, sym, subst, append_assoc}
 use Rattle.grammar.specs.Tree.{Row, one, Item}
 use Rattle.symbols.specs.Occurrences.{each}
 use Rattle.symbols.specs.Symbols.{Symbol}

@@ -1,4 +1,4 @@
-use Rattle.std.proofs.Common.{◌≡◌, ◌≤◌, false, length, sym, arith}
+use Rattle.std.proofs.Common.{◌≤◌, false, length, sym, arith}
 use Rattle.std.proofs.lemmas.List.{get_or_past}
 use Rattle.analysis.proofs.labels.has_line.Goals as goal
 

@@ -1,4 +1,4 @@
-use Rattle.std.proofs.Common.{◌≡◌, ◌<◌, ◌≤◌, length, sym, ◌∙◌, arith}
+use Rattle.std.proofs.Common.{◌<◌, ◌≤◌, length, sym, ◌∙◌, arith}
 use Rattle.analysis.specs.LineSearch.{line_letters}
 use Rattle.analysis.proofs.LineSearching.{found_here, not_here, at_end}
 use Rattle.analysis.proofs.line_search.find_line.Goals as goal

@@ -1,4 +1,4 @@
-use Rattle.std.proofs.Common.{◌<◌, length, arith}
+use Rattle.std.proofs.Common.{arith}
 use Rattle.analysis.proofs.NameLines.{line_held, line_within}
 use Rattle.analysis.proofs.lines.line_of.Goals as goal
 

@@ -1,4 +1,4 @@
-use Rattle.std.proofs.Common.{◌≡◌, ◌<◌, ◌≤◌, min, [], length, sym, refl, ap, ◌∙◌, arith}
+use Rattle.std.proofs.Common.{◌≡◌, ◌<◌, ◌≤◌, min, [], length, refl, ◌∙◌, arith}
 use Rattle.analysis.specs.Numbering.{view_of, names_in}
 use Rattle.analysis.proofs.EnteredWords.{inside_view, words_of_view, none_entered, all_entered}
 use Rattle.analysis.proofs.numbering.number_names.Goals as goal

@@ -1,7 +1,4 @@
-use Rattle.std.proofs.Common.{◌≡◌, ℕ, ◌+◌, ◌<◌, ◌≤◌, ◌⊎◌, length, Some, None, Option, sym, refl, ap, ◌∙◌, inl, inr, arith}
-use Rattle.std.proofs.lemmas.List.{length-set}
-use Rattle.analysis.specs.declared.symbol.NameRecord.{NameRecord}
-use Rattle.analysis.specs.Numbering.{found_line, number_or, lines_with, new_line}
+use Rattle.std.proofs.Common.{◌≡◌, ◌+◌, ◌≤◌, length, sym, refl, ◌∙◌, arith}
 use Rattle.analysis.proofs.EnteredWords.{other_enters, next_new, next_known, name_enters}
 use Rattle.analysis.proofs.numbering.number_word.Goals as goal
 

@@ -1,4 +1,4 @@
-use Rattle.std.proofs.Common.{◌≡◌, ◌<◌, ◌≤◌, length, sym, ◌∙◌, arith}
+use Rattle.std.proofs.Common.{◌<◌, ◌≤◌, length, sym, ◌∙◌, arith}
 use Rattle.analysis.specs.Letters.{letters_in}
 use Rattle.analysis.proofs.Searching.{found_here, not_here, at_end}
 use Rattle.analysis.proofs.search.find.Goals as goal

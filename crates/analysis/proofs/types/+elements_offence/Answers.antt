@@ -1,4 +1,4 @@
-use Rattle.std.proofs.Common.{◌≡◌, ℕ, List, ◌++◌, Option, refl, ◌∙◌}
+use Rattle.std.proofs.Common.{◌≡◌, ℕ, List, ◌++◌, Option, ◌∙◌}
 use Rattle.grammar.specs.Tree.{Row, one, Element}
 use Rattle.symbols.specs.Occurrences.{each}
 use Rattle.symbols.specs.Symbols.{Symbol}

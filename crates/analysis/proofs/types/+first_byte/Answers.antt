@@ -1,6 +1,5 @@
 use Rattle.std.proofs.Common.{◌≡◌, ℕ, refl, ◌∙◌}
 use Rattle.grammar.specs.Tree.{Exp, first_byte}
-use Rattle.parser.specs.declared.node.Node.TheVariants.{Literal, Simple, Subscripted, Prefixed, Joined, Bracketed, Compared}
 use Rattle.analysis.proofs.ExpNodes.{exp_node, from_literal, from_simple, from_subscripted, from_prefixed, from_joined, from_bracketed, from_compared, no_exp}
 use Rattle.analysis.proofs.types.+first_byte.Goals as goal
 

@@ -2,7 +2,7 @@ use Rattle.std.proofs.Common.{◌≡◌, ℕ, List, ◌++◌, Option, refl, ap, 
 use Rattle.grammar.specs.Tree.{Row, simple, value_of, Item}
 use Rattle.symbols.specs.Occurrences.{each}
 use Rattle.symbols.specs.Symbols.{Symbol}
-use Rattle.symbols.specs.Types.{PartType, arithmetic, truth_value, exp_offences, variable_type, element_offences, statement_offences, item_offences}
+use Rattle.symbols.specs.Types.{arithmetic, truth_value, exp_offences, variable_type, element_offences, statement_offences, item_offences}
 use Rattle.analysis.specs.Earliest.{earliest_of}
 use Rattle.analysis.proofs.EarlierPlace.{both}
 use Rattle.analysis.proofs.ItemNodes.{act, items_node, earliest_joined, from_labelled, from_conditional, from_repeated, from_assigned, from_switched, from_input, from_printed}

@@ -1,4 +1,4 @@
-use Rattle.std.proofs.Common.{◌≡◌, ap, ◌∙◌}
+use Rattle.std.proofs.Common.{ap, ◌∙◌}
 use Rattle.symbols.specs.Types.{PartType, differs}
 use Rattle.analysis.specs.PartTypes.{part_in}
 use Rattle.analysis.proofs.EarlierPlace.{told_same}

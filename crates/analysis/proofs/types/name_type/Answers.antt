@@ -1,4 +1,4 @@
-use Rattle.std.proofs.Common.{◌≡◌, ap, ◌∙◌}
+use Rattle.std.proofs.Common.{ap, ◌∙◌}
 use Rattle.symbols.specs.Types.{part_type}
 use Rattle.analysis.proofs.types.name_type.Goals as goal
 

@@ -1,4 +1,4 @@
-use Rattle.std.proofs.Common.{◌≡◌, ℕ, not, List, [], ◌∷◌, None, Option, refl, ◌∙◌}
+use Rattle.std.proofs.Common.{◌≡◌, ℕ, not, List, None, Option, refl, ◌∙◌}
 use Rattle.grammar.specs.Tree.{Exp}
 use Rattle.symbols.specs.Occurrences.{as_variable, as_element, at, in_exp}
 use Rattle.symbols.specs.Symbols.{Symbol, kind_in}

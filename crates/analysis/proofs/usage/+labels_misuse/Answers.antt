@@ -1,4 +1,4 @@
-use Rattle.std.proofs.Common.{◌≡◌, ℕ, List, [], ◌∷◌, Option, refl, ◌∙◌}
+use Rattle.std.proofs.Common.{◌≡◌, ℕ, List, [], ◌∷◌, Option, ◌∙◌}
 use Rattle.grammar.specs.Tree.{Row, one, Name}
 use Rattle.symbols.specs.Occurrences.{in_switch, at, all_at}
 use Rattle.symbols.specs.Symbols.{Symbol}

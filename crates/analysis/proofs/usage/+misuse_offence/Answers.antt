@@ -1,4 +1,4 @@
-use Rattle.std.proofs.Common.{◌≡◌, ℕ, not, List, [], ◌∷◌, ◌++◌, Option, refl, ap, ◌∙◌}
+use Rattle.std.proofs.Common.{◌≡◌, ℕ, not, List, ◌++◌, Option, ap, ◌∙◌}
 use Rattle.grammar.specs.Tree.{Row, one, value_of, Item}
 use Rattle.symbols.specs.Occurrences.{Occurrence, as_target, as_selector, as_variable, at, each, in_exp, in_element, in_statement, in_item}
 use Rattle.symbols.specs.Symbols.{Symbol, kind_in}

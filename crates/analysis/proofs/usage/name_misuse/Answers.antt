@@ -1,4 +1,4 @@
-use Rattle.std.proofs.Common.{◌≡◌, Bool, not, refl, ap, ◌∙◌}
+use Rattle.std.proofs.Common.{Bool, not, ap, ◌∙◌}
 use Rattle.analysis.proofs.EarlierPlace.{told_same}
 use Rattle.analysis.proofs.Misuses.{suits_alike}
 use Rattle.analysis.proofs.usage.name_misuse.Goals as goal

@@ -1,6 +1,6 @@
-use Rattle.std.proofs.Common.{◌≡◌, [], ◌∷◌, None, refl}
+use Rattle.std.proofs.Common.{None, refl}
 use Rattle.symbols.specs.declared.refusal.NameRefusal.TheVariants.{SecondDefinition, MisusedName, WrongType, JumpIntoFor, WrongBounds, TooManyCells}
-use Rattle.symbols.specs.Rules.{offences, first_broken, accepted, verdict}
+use Rattle.symbols.specs.Rules.{offences, accepted, verdict}
 use Rattle.analysis.proofs.FirstBroken.{next_told}
 use Rattle.analysis.proofs.verdict.first_broken.Goals as goal
 

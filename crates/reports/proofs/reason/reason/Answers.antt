@@ -1,4 +1,4 @@
-use Rattle.std.proofs.Common.{◌≡◌, sym, ap, arith}
+use Rattle.std.proofs.Common.{sym, ap, arith}
 use Rattle.reports.specs.Reasons.{reason_of}
 use Rattle.reports.proofs.Reasons.{other_numbers_have_none}
 use Rattle.reports.proofs.reason.reason.Goals as goal
@@ -42,5 +42,5 @@ returns-in-12 c = sym (ap reason_of c.in-12.is)
 pub returns-in-13 : goal.returns-in-13
 returns-in-13 c = sym (ap reason_of c.in-13.is)
 
-pub returns-in-default : goal.returns-in-default
-returns-in-default c = other_numbers_have_none c.args.number (λ h. omega arith)
+pub returns-in_default : goal.returns-in_default
+returns-in_default c = other_numbers_have_none c.args.number (λ h. omega arith)

@@ -1,18 +1,18 @@
-use Rattle.std.proofs.Common.{◌≡◌, ◌<◌, ◌≤◌, length, sym, ◌∙◌, arith}
+use Rattle.std.proofs.Common.{◌<◌, ◌≤◌, length, sym, ◌∙◌, arith}
 use Rattle.reports.proofs.SettingSteps.{found_here, not_here, at_end}
 use Rattle.reports.proofs.settings.cell_of_name.Goals as goal
 
-pub returns-then-has-letters : goal.returns-then-has-letters
-returns-then-has-letters c =
+pub returns-then-has_letters : goal.returns-then-has_letters
+returns-then-has_letters c =
     let l : c.loop-i.i < length c.args.lines.now = omega arith in
-    c.cell-of-line.ensures
-    ∙ (sym (found_here c.args.text.now c.args.records.now c.args.lines.now c.args.name.now c.args.subscript c.loop-i.i _ c.has-letters.result c.has-letters.ensures c.if-has-letters.true l)
+    c.cell_of_line.ensures
+    ∙ (sym (found_here c.args.text.now c.args.records.now c.args.lines.now c.args.name.now c.args.subscript c.loop-i.i _ c.has_letters.result c.has_letters.ensures c.if-has_letters.true l)
     ∙ c.loop-i.invariant)
 
 pub loop-i-preserved : goal.loop-i-preserved
 loop-i-preserved c =
     let l : c.loop-i.i < length c.args.lines.now = omega arith in
-    sym (not_here c.args.text.now c.args.records.now c.args.lines.now c.args.name.now c.args.subscript c.loop-i.i _ c.has-letters.result c.has-letters.ensures c.if-has-letters.false l)
+    sym (not_here c.args.text.now c.args.records.now c.args.lines.now c.args.name.now c.args.subscript c.loop-i.i _ c.has_letters.result c.has_letters.ensures c.if-has_letters.false l)
     ∙ c.loop-i.invariant
 
 pub returns : goal.returns

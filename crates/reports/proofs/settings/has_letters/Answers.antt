@@ -1,4 +1,4 @@
-use Rattle.std.proofs.Common.{◌≡◌, ℕ, List, ap, ◌∙◌}
+use Rattle.std.proofs.Common.{ℕ, List, ap, ◌∙◌}
 use Rattle.std.specs.Str.{bytes_eq}
 use Rattle.std.proofs.lemmas.Slice.Eq.{slice_eq-Decides, bytes_eq-Decides}
 use Rattle.std.proofs.lemmas.Bool.Decides.{same_from_decides, Decides-eqb}
@@ -6,6 +6,6 @@ use Rattle.reports.proofs.settings.has_letters.Goals as goal
 
 pub returns : goal.returns
 returns c =
-    same_from_decides c.eq.result (bytes_eq c.letters-of.result.now c.args.name.now)
-    (slice_eq-Decides Decides-eqb c.letters-of.result.now c.args.name.now c.eq.result c.eq.ensures) (bytes_eq-Decides c.letters-of.result.now c.args.name.now)
-    ∙ ap (λ (l : List ℕ). bytes_eq l c.args.name.now) c.letters-of.ensures
+    same_from_decides c.eq.result (bytes_eq c.letters_of.result.now c.args.name.now)
+    (slice_eq-Decides Decides-eqb c.letters_of.result.now c.args.name.now c.eq.result c.eq.ensures) (bytes_eq-Decides c.letters_of.result.now c.args.name.now)
+    ∙ ap (λ (l : List ℕ). bytes_eq l c.args.name.now) c.letters_of.ensures
