@@ -1,21 +1,22 @@
 #!/usr/bin/env python3
 """Respells the names that this repository's own specs/ and proofs/ declare: types in upper camel case, every other name in
-snake case, the prime as an apostrophe.
+snake case, the prime as an apostrophe, and arrows in words.
 
 usage: respell.py [--list] [FOLDER]
 
-FOLDER (the current one) is a repository with crates/. Run it once, after port.py. With --list it only prints old and new
-names. Names of goals and steps, which the check makes, names of the kit's libraries, comments and strings stay. It stops
-where two names of one file would fall together.
+FOLDER (the current one) is a repository with crates/. With --list it only prints old and new names. Names of goals and
+steps, which the check makes, names of the toolchain's libraries, comments (but for names in backticks) and strings stay. It
+tells where two names of one file fall together. A second run changes nothing.
 """
 
 import os
 import re
+import shutil
 import sys
 
-KIT = "/opt/rattle/rattle"
+KIT = os.path.join(os.path.dirname(os.path.realpath(shutil.which("rt") or "/")), "..", "rattle")
 LETTER = r"A-Za-z0-9_'′₀-₉→"
-TOKEN = re.compile(r"--(?!>)[^\n]*|//[^\n]*|\"(?:[^\"\\]|\\.)*\"|«[^»]*»|[A-Za-z_][" + LETTER + r"]*(?:-[" + LETTER + r"]+)*")
+TOKEN = re.compile(r"--(?!>)[^\n]*|//[^\n]*|\"(?:[^\"\\]|\\.)*\"|«[^»]*»|(?:→(?=[A-Za-z]))?[A-Za-z_][" + LETTER + r"]*(?:-[" + LETTER + r"]+)*")
 MARKS = r"(?:(?:pattern|unfoldable|abbrev|axiom|pub)\s+)*"
 SIGNATURE = re.compile(r"^(\s*)" + MARKS + r"([^\s:={}().;,\"]+(?: [^\s:={}().;,\"]+)*)\s*(?:\{[^{}:]*\}\s*)?:\s(.*)$")
 HEADED = re.compile(r"^\s*" + MARKS + r"(data|record|module)\s+([^\s:({]+)")
@@ -103,7 +104,12 @@ def camel(name):
 
 
 def snake(name):
-    name = name.replace("′", "'").replace("-", "_").replace("→", "_to_")
+    name = name.replace("′", "'").replace("-", "_")
+    if name.startswith("→"):
+        name = "to_" + name[1:]
+    elif name.endswith("→"):
+        name = "from_" + name[:-1]
+    name = name.replace("→", "_to_")
     return name[:1].lower() + name[1:]
 
 

@@ -19,7 +19,7 @@ pub extern "C" fn pavennuri_check<'a>(
     operations: &'a [u8],
     operands: &'a [u64],
 ) -> u8
-    ensures { result ≡ verdict_number (verdict (code_of (record { operations = n; named = v; cells = m; depth = depth }) operations.entry.now operands.now)) }
+    ensures { result ≡ verdict_number (verdict (code_of (record { operations = n; named = v; cells = m; depth = depth }) operations.now operands.now)) }
 {
     let sizes = Sizes {
         operations: n,

@@ -11,7 +11,7 @@ use Rattle.symbols.specs.Laws.{In, here, later}
 use Rattle.symbols.proofs.Lists.{in_left, in_right}
 use Rattle.symbols.proofs.Offences.{empty_left, empty_right, nothing_told, accepted_to_keeps_all}
 use Rattle.symbols.proofs.Names.{names_agree}
-use Rattle.symbols.proofs.Table.{same_to_, name_said}
+use Rattle.symbols.proofs.Table.{from_same, name_said}
 use Rattle.figures.specs.Kinds.{Kind}
 use Rattle.meaning.specs.Names.{labels_of, names_of}
 use Rattle.meaning.specs.Positions.{Loop, Continuation, nothing, rest, turn, Position, end, enter, find, find_in_text, destination, statement_of, followed_by, statements}
@@ -19,7 +19,7 @@ use Rattle.meaning.specs.Machine.{State}
 use Rattle.meaning.specs.Laws.{has_label}
 use Rattle.meaning.specs.Accepted.{Stands, label_here, past_label, past_if, past_for, in_front, at_back, StandsInText, Lands, Reached, LandingLaw}
 use Rattle.meaning.proofs.Jumping.{true_is_not_false, among_both, find_misses}
-use Rattle.meaning.proofs.Switches.{in_cases, is_switch_to_, declares, label_named}
+use Rattle.meaning.proofs.Switches.{in_cases, from_is_switch, declares, label_named}
 use Rattle.meaning.proofs.Reaching.{PassesOn, For, After, at_nothing, at_rest, at_turn, At, OfText, beginning_keeps, run_keeps}
 
 -- The statement that `find` comes to.
@@ -37,7 +37,7 @@ no_label e = absurd (true_is_not_false (sym e))
 
 hits_label : (l : List ℕ) (m : Name) (s : Statement) (k : Continuation) (o : Position) (b : Bool) → bytes_eq l m.letters ≡ b → (b || has_label l s) ≡ true
     → (has_label l s ≡ true → Finds l s (find l s k o)) → Finds l (labelled m s) (cond b (enter s k) (find l s k o))
-hits_label l m s k o true e h next = record { statement = s; surroundings = k; stands = label_here (same_to_ l m.letters e); found = refl }
+hits_label l m s k o true e h next = record { statement = s; surroundings = k; stands = label_here (from_same l m.letters e); found = refl }
 hits_label l m s k o false e h next = finds_within (λ r. past_label) refl (next h)
 
 hits_sequence : (l : List ℕ) (a b : Statement) (k : Continuation) (o : Position) (x : Bool) → has_label l a ≡ x → (x || has_label l b) ≡ true
@@ -164,7 +164,7 @@ module _ (t : Program) where
     switch_lands p x e k h j l i =
         let o = at as_selector x in
         let stands = h.listed o here in
-        let s = is_switch_to_ (kind_in (symbols t) x.letters) ((names_agree t ok).uses_suit o stands) in
+        let s = from_is_switch (kind_in (symbols t) x.letters) ((names_agree t ok).uses_suit o stands) in
         let d = declares t x.letters s.0 (sym (name_said t o stands).0 ∙ s.1) in
         let n = label_named l s.0 (subst (λ y. In l (labels_of y)) s.1 i) in
         let y = n.name in

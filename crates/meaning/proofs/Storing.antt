@@ -8,7 +8,7 @@ use Rattle.symbols.specs.Rules.{is_variable, accepted, verdict}
 use Rattle.symbols.specs.Laws.{In, here, later}
 use Rattle.symbols.proofs.Cells.{cells_in_order}
 use Rattle.symbols.proofs.Names.{names_agree}
-use Rattle.symbols.proofs.Table.{→same, every_line}
+use Rattle.symbols.proofs.Table.{to_same, every_line}
 use Rattle.figures.specs.Kinds.{value, refused}
 use Rattle.meaning.specs.Names.{Extent, names_of}
 use Rattle.meaning.specs.Expressions.{at_distance, element_cell}
@@ -31,7 +31,7 @@ line_later y ss x false e next =
 has_line : (ss : List Symbol) (s : Symbol) (x : List ℕ) → In s ss → s.name.letters ≡ x → Line ss x
 has_line [] s x i e = elim i [ ]
 has_line (y ∷ ss) s x here e =
-    line_later y ss x (bytes_eq x y.name.letters) refl (λ f. absurd (true_is_not_false (sym (→same x y.name.letters (sym e)) ∙ f)))
+    line_later y ss x (bytes_eq x y.name.letters) refl (λ f. absurd (true_is_not_false (sym (to_same x y.name.letters (sym e)) ∙ f)))
 has_line (y ∷ ss) s x (later i) e = line_later y ss x (bytes_eq x y.name.letters) refl (λ f. has_line ss s x i e)
 
 -- The cells of a name that stands in the text end among the named cells.

@@ -18,11 +18,11 @@ in_cases x [] ys P f g h = g h
 in_cases x (y ∷ xs) ys P f g here = f here
 in_cases x (y ∷ xs) ys P f g (later h) = in_cases x xs ys P (λ i. f (later i)) g h
 
-pub is_switch_to_ : (k : Kind) → is_switch k ≡ true → (ls : Row Name) × (k ≡ a_switch ls)
-is_switch_to_ a_label e = absurd (true_is_not_false (sym e))
-is_switch_to_ (a_switch ls) e = (ls, refl)
-is_switch_to_ (an_array l h) e = absurd (true_is_not_false (sym e))
-is_switch_to_ a_variable e = absurd (true_is_not_false (sym e))
+pub from_is_switch : (k : Kind) → is_switch k ≡ true → (ls : Row Name) × (k ≡ a_switch ls)
+from_is_switch a_label e = absurd (true_is_not_false (sym e))
+from_is_switch (a_switch ls) e = (ls, refl)
+from_is_switch (an_array l h) e = absurd (true_is_not_false (sym e))
+from_is_switch a_variable e = absurd (true_is_not_false (sym e))
 
 -- A name of a switch's list, by its letters: it stands in the list, and what no name of the list meets it does not meet.
 pub record Named (l : List ℕ) (ls : Row Name) : Type 0 where

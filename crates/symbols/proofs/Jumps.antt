@@ -13,7 +13,7 @@ use Rattle.symbols.specs.Laws.{In, here, later}
 use Rattle.symbols.specs.ForsAround.{Label, labels_in, Jump, jumps_in, of_statement, labels, jumps, Leads, straight, by_switch, AllAround}
 use Rattle.symbols.proofs.Lists.{in_left, in_right}
 use Rattle.symbols.proofs.Offences.{empty_left, empty_right, nothing_told, by_place, accepted_to_keeps_all}
-use Rattle.symbols.proofs.Table.{same_to_}
+use Rattle.symbols.proofs.Table.{from_same}
 use Rattle.symbols.proofs.Names.{names_agree}
 use Rattle.symbols.proofs.Labels.{program_labels, Defining, defining, Differ, labels_differ, in_letters, one_label}
 
@@ -49,7 +49,7 @@ open_seen fs (labelled y s) x e = go (bytes_eq x y.letters) refl e (open_seen fs
     go : (b : Bool) → bytes_eq x y.letters ≡ b → (b || is_among (open_labels s) x) ≡ true
         → (is_among (open_labels s) x ≡ true → (l : Label) × In l (labels_in fs s) × (l.letters ≡ x) × (l.fors ≡ fs))
         → (l : Label) × In l (labels_in fs (labelled y s)) × (l.letters ≡ x) × (l.fors ≡ fs)
-    go true m h rest = (record { letters = y.letters; fors = fs }, here, sym (same_to_ x y.letters m), refl)
+    go true m h rest = (record { letters = y.letters; fors = fs }, here, sym (from_same x y.letters m), refl)
     go false m h rest = let r = rest h in (r.0, later r.1, r.2, r.3)
 open_seen fs (conditional p a s) x e = open_seen fs s x e
 open_seen fs (repeated p y es s) x e = absurd (both_ways false refl e)

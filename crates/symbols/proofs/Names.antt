@@ -12,7 +12,7 @@ use Rattle.symbols.specs.Rules.{is_some, is_defined, is_typed, target, is_target
 use Rattle.symbols.specs.Laws.{In, here, later, Twice, Says, NamesAgree}
 use Rattle.symbols.proofs.Lists.{Split, in_to_split}
 use Rattle.symbols.proofs.Offences.{empty_left, empty_right, nothing_told, accepted_to_keeps_all}
-use Rattle.symbols.proofs.Table.{→same, name_said}
+use Rattle.symbols.proofs.Table.{to_same, name_said}
 
 -- What the first of two lists says of a name goes before what the second says.
 module _ {A : Type 0} (f : Role → Option A) where
@@ -27,7 +27,7 @@ module _ {A : Type 0} (f : Role → Option A) where
 
   -- What an occurrence says of its own name is said of the list that it begins.
   said_here : (o : Occurrence) (os : List Occurrence) (x : List ℕ) → x ≡ o.name.letters → first_said f (o ∷ os) x ≡ or_else (f o.role) (first_said f os x)
-  said_here o os x e = rw (→same x o.name.letters e)
+  said_here o os x e = rw (to_same x o.name.letters e)
 
   some_left : (u w : Option A) → is_some u ≡ true → is_some (or_else u w) ≡ true
   some_left (Some x) w e = refl

@@ -10,23 +10,23 @@ use Rattle.symbols.specs.Laws.{In, here, later, LinesDiffer}
 use Rattle.symbols.proofs.Lists.{in_middle, in_left}
 
 -- The comparison of letters.
-pub same_to_ : (x y : List ℕ) → bytes_eq x y ≡ true → x ≡ y
-same_to_ x y = (bytes_eq-Decides x y).0
+pub from_same : (x y : List ℕ) → bytes_eq x y ≡ true → x ≡ y
+from_same x y = (bytes_eq-Decides x y).0
 
-pub →same : (x y : List ℕ) → x ≡ y → bytes_eq x y ≡ true
-→same x y = (bytes_eq-Decides x y).1
+pub to_same : (x y : List ℕ) → x ≡ y → bytes_eq x y ≡ true
+to_same x y = (bytes_eq-Decides x y).1
 
 not_same_back : (x y : List ℕ) → bytes_eq x y ≡ false → bytes_eq y x ≡ false
 not_same_back x y e = go (bytes_eq y x) refl
   where
     go : (b : Bool) → bytes_eq y x ≡ b → b ≡ false
-    go true h = absurd (both_ways (bytes_eq x y) e (→same x y (sym (same_to_ y x h))))
+    go true h = absurd (both_ways (bytes_eq x y) e (to_same x y (sym (from_same y x h))))
     go false h = refl
 
 -- A list has a name just where some name of it has the letters.
 pub in_to_has : (ns : List Name) (n : Name) (x : List ℕ) → In n ns → x ≡ n.letters → has_name ns x ≡ true
 in_to_has [] n x i e = elim i [ ]
-in_to_has (m ∷ ns) n x here e = rw (→same x m.letters e)
+in_to_has (m ∷ ns) n x here e = rw (to_same x m.letters e)
 in_to_has (m ∷ ns) n x (later i) e = go (bytes_eq x m.letters) (in_to_has ns n x i e)
   where
     go : (b : Bool) → has_name ns x ≡ true → cond b true (has_name ns x) ≡ true
@@ -38,7 +38,7 @@ has_to_in [] x e = absurd (both_ways false refl e)
 has_to_in (m ∷ ns) x e = go (bytes_eq x m.letters) refl e (has_to_in ns x)
   where
     go : (b : Bool) → bytes_eq x m.letters ≡ b → cond b true (has_name ns x) ≡ true → (has_name ns x ≡ true → (n : Name) × In n ns × (n.letters ≡ x)) → (n : Name) × In n (m ∷ ns) × (n.letters ≡ x)
-    go true s h rest = (m, here, sym (same_to_ x m.letters s))
+    go true s h rest = (m, here, sym (from_same x m.letters s))
     go false s h rest = let r = rest h in (r.0, later r.1, r.2)
 
 -- Entering a name keeps those that are there, and then it is there.
@@ -147,7 +147,7 @@ table_says os c (n ∷ ns) x h = go (bytes_eq x n.letters) refl (table_says os (
     go : (b : Bool) → bytes_eq x n.letters ≡ b
         → (has_name ns x ≡ true → (kind_in (numbered os (c + cells (kind_of os n.letters)) ns) x ≡ kind_of os x) × (type_in (numbered os (c + cells (kind_of os n.letters)) ns) x ≡ type_of os x))
         → (kind_in (numbered os c (n ∷ ns)) x ≡ kind_of os x) × (type_in (numbered os c (n ∷ ns)) x ≡ type_of os x)
-    go true e rest = let m : n.letters ≡ x = sym (same_to_ x n.letters e) in (rw e (ap (λ (v : List ℕ). kind_of os v) m), rw e (ap (λ (v : List ℕ). type_of os v) m))
+    go true e rest = let m : n.letters ≡ x = sym (from_same x n.letters e) in (rw e (ap (λ (v : List ℕ). kind_of os v) m), rw e (ap (λ (v : List ℕ). type_of os v) m))
     go false e rest = let r = rest (rest_has e) in (rw e r.0, rw e r.1)
 
 pub name_said : (t : Program) (o : Occurrence) → In o (occurrences t) → (kind_in (symbols t) o.name.letters ≡ kind_of (occurrences t) o.name.letters) × (type_in (symbols t) o.name.letters ≡ type_of (occurrences t) o.name.letters)

@@ -25,13 +25,13 @@ same_told truth_value p = refl
 
 -- A row has no offences just where its parts have none.
 module _ {A : Type 0} (f : A → List ℕ) (P : A → Type 0) where
-  each_to_ : ((x : A) → f x ≡ [] → P x) → (xs : Row A) → each f xs ≡ [] → OfEach P xs
-  each_to_ h (one x) e = h x e
-  each_to_ h (more xs x) e = (each_to_ h xs (empty_left (each f xs) (f x) e), h x (empty_right (each f xs) (f x) e))
+  from_each : ((x : A) → f x ≡ [] → P x) → (xs : Row A) → each f xs ≡ [] → OfEach P xs
+  from_each h (one x) e = h x e
+  from_each h (more xs x) e = (from_each h xs (empty_left (each f xs) (f x) e), h x (empty_right (each f xs) (f x) e))
 
-  →each : ((x : A) → P x → f x ≡ []) → (xs : Row A) → OfEach P xs → each f xs ≡ []
-  →each h (one x) k = h x k
-  →each h (more xs x) k = both_empty (each f xs) (f x) (→each h xs k.0) (h x k.1)
+  to_each : ((x : A) → P x → f x ≡ []) → (xs : Row A) → OfEach P xs → each f xs ≡ []
+  to_each h (one x) k = h x k
+  to_each h (more xs x) k = both_empty (each f xs) (f x) (to_each h xs k.0) (h x k.1)
 
 module _ (ss : List Symbol) where
   -- The type that is told of the part at the head is the wanted one.
@@ -114,14 +114,14 @@ module _ (ss : List Symbol) where
       let E : List ℕ = each (element_offences ss) es in
       let S : List ℕ = statement_offences ss s in
       let r : E ++ S ≡ [] = empty_right X (E ++ S) e in
-      a_repetition (exp_typed arithmetic (simple x) (empty_left X (E ++ S) e)) (each_to_ (element_offences ss) (ArithmeticElement ss) element_typed es (empty_left E S r)) (statement_typed s (empty_right E S r))
+      a_repetition (exp_typed arithmetic (simple x) (empty_left X (E ++ S) e)) (from_each (element_offences ss) (ArithmeticElement ss) element_typed es (empty_left E S r)) (statement_typed s (empty_right E S r))
   statement_typed (assigned v a) e =
       let w : PartType = variable_type ss v in
       an_assignment (exp_typed w (value_of v) (empty_left (exp_offences ss w (value_of v)) (exp_offences ss w a) e)) (exp_typed w a (empty_right (exp_offences ss w (value_of v)) (exp_offences ss w a) e))
   statement_typed (go p x) e = a_jump
   statement_typed (switched p x i) e = a_choice (exp_typed arithmetic i e)
   statement_typed (input p v) e = an_input (exp_typed arithmetic (value_of v) e)
-  statement_typed (printed p xs) e = a_print (each_to_ (exp_offences ss arithmetic) (λ a. HasType ss a arithmetic) (exp_typed arithmetic) xs e)
+  statement_typed (printed p xs) e = a_print (from_each (exp_offences ss arithmetic) (λ a. HasType ss a arithmetic) (exp_typed arithmetic) xs e)
   statement_typed (stop p) e = a_stop
   statement_typed (sequence s t) e =
       in_sequence (statement_typed s (empty_left (statement_offences ss s) (statement_offences ss t) e))
@@ -132,7 +132,7 @@ module _ (ss : List Symbol) where
   typed_statement (a_condition {p} {a} {s} h k) = both_empty (exp_offences ss truth_value a) (statement_offences ss s) (typed_exp h) (typed_statement k)
   typed_statement (a_repetition {p} {x} {es} {s} h k l) =
       both_empty (exp_offences ss arithmetic (simple x)) (each (element_offences ss) es ++ statement_offences ss s) (typed_exp h)
-      (both_empty (each (element_offences ss) es) (statement_offences ss s) (→each (element_offences ss) (ArithmeticElement ss) typed_element es k) (typed_statement l))
+      (both_empty (each (element_offences ss) es) (statement_offences ss s) (to_each (element_offences ss) (ArithmeticElement ss) typed_element es k) (typed_statement l))
   typed_statement (an_assignment {v} {a} {w} h k) =
       let P : PartType → Type 0 = λ u. (exp_offences ss u (value_of v) ≡ []) × (exp_offences ss u a ≡ []) in
       let r : (exp_offences ss (variable_type ss v) (value_of v) ≡ []) × (exp_offences ss (variable_type ss v) a ≡ []) = subst P (own_type v w h) (typed_exp h, typed_exp k) in
@@ -140,7 +140,7 @@ module _ (ss : List Symbol) where
   typed_statement a_jump = refl
   typed_statement (a_choice h) = typed_exp h
   typed_statement (an_input h) = typed_exp h
-  typed_statement (a_print {p} {xs} h) = →each (exp_offences ss arithmetic) (λ a. HasType ss a arithmetic) (λ a. typed_exp) xs h
+  typed_statement (a_print {p} {xs} h) = to_each (exp_offences ss arithmetic) (λ a. HasType ss a arithmetic) (λ a. typed_exp) xs h
   typed_statement a_stop = refl
   typed_statement (in_sequence {s} {t} h k) = both_empty (statement_offences ss s) (statement_offences ss t) (typed_statement h) (typed_statement k)
 
@@ -161,7 +161,7 @@ module _ (ss : List Symbol) where
   typed_item (action s) h = typed_statement h
 
   pub program_typed : (t : Program) → wrong_types ss t ≡ [] → OfEach (ItemTyped ss) t
-  program_typed t e = each_to_ (item_offences ss) (ItemTyped ss) item_typed t e
+  program_typed t e = from_each (item_offences ss) (ItemTyped ss) item_typed t e
 
   pub typed_program : (t : Program) → OfEach (ItemTyped ss) t → wrong_types ss t ≡ []
-  typed_program t h = →each (item_offences ss) (ItemTyped ss) typed_item t h
+  typed_program t h = to_each (item_offences ss) (ItemTyped ss) typed_item t h

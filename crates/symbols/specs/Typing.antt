@@ -8,7 +8,7 @@ use Rattle.grammar.specs.Tree.{Row, one, more, Name, Exp, literal, simple, subsc
 use Rattle.symbols.specs.Symbols.{Symbol}
 use Rattle.symbols.specs.Types.{PartType, arithmetic, truth_value, name_type, operator_type, prefix_type, wrong_types}
 
--- Has-type ss a w: where the names are those of the table ss, the expression a is of type w.
+-- HasType ss a w: where the names are those of the table ss, the expression a is of type w.
 pub data HasType (ss : List Symbol) : Exp → PartType → Type 0 where
   any_number : {n p : ℕ} → HasType ss (literal n p) arithmetic
   zero_or_one : {n p : ℕ} → n ≤ 1 → HasType ss (literal n p) truth_value

@@ -13,7 +13,7 @@ use Rattle.symbols.proofs.Table.{name_said}
 use Rattle.meaning.specs.Names.{names_in, labels_of}
 use Rattle.meaning.specs.Laws.{has_label}
 use Rattle.meaning.proofs.Jumping.{true_is_not_false, among_both}
-use Rattle.meaning.proofs.Switches.{is_switch_to_, declares, label_named}
+use Rattle.meaning.proofs.Switches.{from_is_switch, declares, label_named}
 use Rattle.translator.specs.Compiled.{AllSeen, seen_inside, Sees}
 
 -- A label that does not lead inside is seen.
@@ -41,7 +41,7 @@ module _ (t : Program) (ok : verdict t ≡ accepted) where
   switch_seen : (ls : List (List ℕ)) (seen : List ℕ → Bool) → Lists ls seen → (x : Name) → In (at as_selector x) (occurrences t)
       → switch_leads (leads_inside (symbols t) ls) (kind_in (symbols t) x.letters) ≡ false → AllSeen seen (labels_of (kind_in (symbols t) x.letters))
   switch_seen ls seen same x i outside =
-      let s = is_switch_to_ (kind_in (symbols t) x.letters) ((names_agree t ok).uses_suit (at as_selector x) i) in
+      let s = from_is_switch (kind_in (symbols t) x.letters) ((names_agree t ok).uses_suit (at as_selector x) i) in
       subst (λ k. AllSeen seen (labels_of k)) (sym s.1) (all_seen seen (labels_of (a_switch s.0)) (each_seen s.0 s.1))
     where
       each_seen : (xs : Row Name) → kind_in (symbols t) x.letters ≡ a_switch xs → (l : List ℕ) → In l (labels_of (a_switch xs)) → seen l ≡ true

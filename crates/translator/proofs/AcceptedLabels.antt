@@ -10,7 +10,7 @@ use Rattle.symbols.specs.Laws.{In, here, later}
 use Rattle.symbols.specs.ForsAround.{Label, labels_in, of_statement}
 use Rattle.symbols.proofs.Lists.{in_left, in_right}
 use Rattle.symbols.proofs.Names.{names_agree}
-use Rattle.symbols.proofs.Table.{same_to_, →same}
+use Rattle.symbols.proofs.Table.{from_same, to_same}
 use Rattle.symbols.proofs.Labels.{Differ, labels_differ, program_labels}
 use Rattle.meaning.specs.Names.{Names}
 use Rattle.meaning.specs.Positions.{statements}
@@ -75,7 +75,7 @@ module _ (names : Names) where
   place_otherwise l (labelled m s) a o h = by (bytes_eq l m.letters) refl (place_otherwise l s a o (λ i. h (later i)))
     where
       by : (b : Bool) → bytes_eq l m.letters ≡ b → label_place names l s a o ≡ o → cond b a (label_place names l s a o) ≡ o
-      by true e next = let P : List ℕ → Type 0 = λ k. In l (k ∷ all_labels s) in absurd (h (subst P (same_to_ l m.letters e) here))
+      by true e next = let P : List ℕ → Type 0 = λ k. In l (k ∷ all_labels s) in absurd (h (subst P (from_same l m.letters e) here))
       by false e next = next
   place_otherwise l (conditional p e s) a o h = place_otherwise l s (a + (exp_size e + 2)) o h
   place_otherwise l (repeated p x es s) a o h = place_otherwise l s (a + elements_size names (type_of names x) (all_of es)) o h
@@ -101,10 +101,10 @@ module _ (names : Names) where
       here_found : label_at m.letters ≡ a
       here_found =
           let h = f m.letters here in
-          h.1 ∙ ap (λ b. cond b a (label_place names m.letters s a h.0)) (→same m.letters m.letters refl)
+          h.1 ∙ ap (λ b. cond b a (label_place names m.letters s a h.0)) (to_same m.letters m.letters refl)
 
       past : (l : List ℕ) → In l (all_labels s) → (o : ℕ) (b : Bool) → bytes_eq l m.letters ≡ b → cond b a (label_place names l s a o) ≡ label_place names l s a o
-      past l i o true e = let P : List ℕ → Type 0 = λ k. In k (all_labels s) in absurd (d.0 (subst P (same_to_ l m.letters e) i))
+      past l i o true e = let P : List ℕ → Type 0 = λ k. In k (all_labels s) in absurd (d.0 (subst P (from_same l m.letters e) i))
       past l i o false e = refl
 
       inside : LookedFor label_at a s

@@ -18,22 +18,22 @@ use Rattle.symbols.proofs.Cells.{enough_cells}
 use Rattle.symbols.proofs.Bounds.{bounds_in_range}
 use Rattle.meaning.specs.Names.{names_in, labels_of}
 use Rattle.meaning.proofs.Jumping.{true_is_not_false}
-use Rattle.meaning.proofs.Switches.{is_switch_to_, said_by}
+use Rattle.meaning.proofs.Switches.{from_is_switch, said_by}
 use Rattle.meaning.proofs.Storing.{cells_end}
 use Rattle.translator.specs.Fits.{ExtentFits}
 
 -- What is asked for as a variable, or as an array, is one.
-is_variable_to_ : (k : Kind) → is_variable k ≡ true → k ≡ a_variable
-is_variable_to_ a_label e = absurd (true_is_not_false (sym e))
-is_variable_to_ (a_switch ls) e = absurd (true_is_not_false (sym e))
-is_variable_to_ (an_array l h) e = absurd (true_is_not_false (sym e))
-is_variable_to_ a_variable e = refl
+from_is_variable : (k : Kind) → is_variable k ≡ true → k ≡ a_variable
+from_is_variable a_label e = absurd (true_is_not_false (sym e))
+from_is_variable (a_switch ls) e = absurd (true_is_not_false (sym e))
+from_is_variable (an_array l h) e = absurd (true_is_not_false (sym e))
+from_is_variable a_variable e = refl
 
-is_array_to_ : (k : Kind) → is_array k ≡ true → (l : Bound) × (h : Bound) × (k ≡ an_array l h)
-is_array_to_ a_label e = absurd (true_is_not_false (sym e))
-is_array_to_ (a_switch ls) e = absurd (true_is_not_false (sym e))
-is_array_to_ (an_array l h) e = (l, h, refl)
-is_array_to_ a_variable e = absurd (true_is_not_false (sym e))
+from_is_array : (k : Kind) → is_array k ≡ true → (l : Bound) × (h : Bound) × (k ≡ an_array l h)
+from_is_array a_label e = absurd (true_is_not_false (sym e))
+from_is_array (a_switch ls) e = absurd (true_is_not_false (sym e))
+from_is_array (an_array l h) e = (l, h, refl)
+from_is_array a_variable e = absurd (true_is_not_false (sym e))
 
 -- Only an array declaration defines an array.
 array_role : (r : Role) (l h : Bound) → definition r ≡ Some (an_array l h) → r ≡ as_array l h
@@ -77,7 +77,7 @@ module _ (t : Program) (ok : verdict t ≡ accepted) where
 
   -- What stands as a variable is a simple variable.
   variable_kind : (x : Name) → In (at as_variable x) (occurrences t) → kind_in (symbols t) x.letters ≡ a_variable
-  variable_kind x i = is_variable_to_ (kind_in (symbols t) x.letters) ((names_agree t ok).uses_suit (at as_variable x) i)
+  variable_kind x i = from_is_variable (kind_in (symbols t) x.letters) ((names_agree t ok).uses_suit (at as_variable x) i)
 
   -- A simple variable has one cell, told by the subscript 0.
   pub variable_count : (x : Name) → In (at as_variable x) (occurrences t) → cells (kind_in (symbols t) x.letters) ≡ 1
@@ -97,7 +97,7 @@ module _ (t : Program) (ok : verdict t ≡ accepted) where
   -- An array's low bound is near enough to 0.
   array_bias : (x : Name) → In (at as_element x) (occurrences t) → (b : ℕ) × (low_bound (kind_in (symbols t) x.letters) +ℤ pos 10000 ≡ pos b)
   array_bias x i =
-      let a = is_array_to_ (kind_in (symbols t) x.letters) ((names_agree t ok).uses_suit (at as_element x) i) in
+      let a = from_is_array (kind_in (symbols t) x.letters) ((names_agree t ok).uses_suit (at as_element x) i) in
       let l = a.0 in
       let h = a.1 in
       let said = defined_array (first_said definition (occurrences t) x.letters) l h (sym (name_said t (at as_element x) i).0 ∙ a.2) in
@@ -118,5 +118,5 @@ module _ (t : Program) (ok : verdict t ≡ accepted) where
   -- A switch that a go to names has a label.
   pub switch_has_label : (x : Name) → In (at as_selector x) (occurrences t) → 1 ≤ length (labels_of (kind_in (symbols t) x.letters))
   switch_has_label x i =
-      let s = is_switch_to_ (kind_in (symbols t) x.letters) ((names_agree t ok).uses_suit (at as_selector x) i) in
+      let s = from_is_switch (kind_in (symbols t) x.letters) ((names_agree t ok).uses_suit (at as_selector x) i) in
       subst (λ k. 1 ≤ length (labels_of k)) (sym s.1) (row_has_label s.0)

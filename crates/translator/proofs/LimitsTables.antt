@@ -7,7 +7,7 @@ use Rattle.symbols.specs.Occurrences.{in_switch, Occurrence, at, each, in_exp, i
 use Rattle.symbols.specs.Symbols.{Kind, a_label, a_switch, an_array, a_variable, definition, or_else, first_said, or_variable, kind_of, cells, Symbol, numbered, symbols, names}
 use Rattle.symbols.specs.Laws.{In, here, later, LinesDiffer}
 use Rattle.symbols.proofs.Lists.{in_to_split}
-use Rattle.symbols.proofs.Table.{same_to_, lines_differ}
+use Rattle.symbols.proofs.Table.{from_same, lines_differ}
 use Rattle.meaning.specs.Names.{labels_of}
 use Rattle.translator.specs.Generator.{Entry}
 use Rattle.translator.specs.Translation.{rows_code, table_code, tables_code, table_size}
@@ -50,7 +50,7 @@ none_named o os (s ∷ ss) none =
     go_on : (b : Bool) → bytes_eq s.name.letters o.name.letters ≡ b → lines_weight (o ∷ os) ss ≡ lines_weight os ss
         → said_weight (cond b (or_else (definition o.role) (first_said definition os s.name.letters)) (first_said definition os s.name.letters)) + lines_weight (o ∷ os) ss
         ≡ said_weight (first_said definition os s.name.letters) + lines_weight os ss
-    go_on true e rest = absurd (none s here (same_to_ s.name.letters o.name.letters e))
+    go_on true e rest = absurd (none s here (from_same s.name.letters o.name.letters e))
     go_on false e rest = omega (arith, rest)
 
 tail_differ : (s : Symbol) (ss : List Symbol) → LinesDiffer (s ∷ ss) → LinesDiffer ss
@@ -68,7 +68,7 @@ one_more o os (s ∷ ss) d = go_on (bytes_eq s.name.letters o.name.letters) refl
         → said_weight (cond b (or_else (definition o.role) (first_said definition os s.name.letters)) (first_said definition os s.name.letters)) + lines_weight (o ∷ os) ss
         ≤ said_weight (definition o.role) + (said_weight (first_said definition os s.name.letters) + lines_weight os ss)
     go_on true e rest =
-        let same = same_to_ s.name.letters o.name.letters e in
+        let same = from_same s.name.letters o.name.letters e in
         let others = none_named o os ss (λ x i q. head_differs s ss d x i (same ∙ sym q)) in
         omega (arith, others, first_weight (definition o.role) (first_said definition os s.name.letters))
     go_on false e rest = omega (arith, rest)

@@ -13,7 +13,7 @@ use Rattle.symbols.specs.Rules.{accepted, verdict, suits, is_array, is_variable}
 use Rattle.symbols.specs.Laws.{In, here, later, BoundsInRange}
 use Rattle.symbols.proofs.Bounds.{bounds_in_range}
 use Rattle.symbols.proofs.Names.{names_agree}
-use Rattle.symbols.proofs.Table.{same_to_, name_said}
+use Rattle.symbols.proofs.Table.{from_same, name_said}
 use Rattle.meaning.specs.Names.{names_in}
 use Rattle.translator.specs.Generator.{Entry}
 use Rattle.translator.proofs.Resuming.{Begins}
@@ -34,7 +34,7 @@ said_by {A} f (p ∷ os) x v e = pick (bytes_eq x p.name.letters) refl e (said_b
     first_or : (w : Option A) → f p.role ≡ w → bytes_eq x p.name.letters ≡ true → or_else w (first_said f os x) ≡ Some v
         → (first_said f os x ≡ Some v → (o : Occurrence) × In o os × (o.name.letters ≡ x) × (f o.role ≡ Some v))
         → (o : Occurrence) × In o (p ∷ os) × (o.name.letters ≡ x) × (f o.role ≡ Some v)
-    first_or (Some y) s b e rest = (p, here, sym (same_to_ x p.name.letters b), s ∙ e)
+    first_or (Some y) s b e rest = (p, here, sym (from_same x p.name.letters b), s ∙ e)
     first_or None s b e rest = further (rest e)
 
     pick : (b : Bool) → bytes_eq x p.name.letters ≡ b → cond b (or_else (f p.role) (first_said f os x)) (first_said f os x) ≡ Some v

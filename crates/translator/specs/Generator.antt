@@ -268,7 +268,7 @@ module _ (names : Names) where
   input_code (indexed x i) r = exp_code i (entry (take_operation (type_of x)) (cells_at x) ∷ r)
 
   -- The code of a statement at place a, whose hidden cells begin at h. The labels stand at label_at, the tables of the
-  -- switches at table_at, and the HALT at halt-at.
+  -- switches at table_at, and the HALT at halt_at.
   module _ (label_at table_at : List ℕ → ℕ) (halt_at : ℕ) where
     abbrev pub code : ℕ → ℕ → Statement → List Entry → List Entry
     code h a (labelled l s) r = code h a s r
