@@ -1,13 +1,8 @@
--- Variables as expressions, and rows of expressions as rows of elements.
+-- Rows of expressions as rows of elements.
 use Rattle.std.proofs.Common.{◌≡◌, ℕ, List, ◌++◌, refl, ap}
 use Rattle.grammar.specs.Tree.{Row, one, more, Exp, Variable, whole, indexed, value_of, Element, single}
 use Rattle.parser.specs.Records.{View, ExpAt, VariableAt, ElementAt, RowAt}
 use Rattle.symbols.specs.Occurrences.{each}
-
--- A variable stands where its figure does.
-pub value_at : (v : View) (y : Variable) (i : ℕ) → VariableAt v y i → ExpAt v (value_of y) i
-value_at v (whole x) i h = h
-value_at v (indexed x e) i h = h
 
 -- A row of expressions is one of single elements.
 abbrev pub singles : Row Exp → Row Element

@@ -10,11 +10,8 @@ use Rattle.symbols.specs.TextOrder.{name_at, named_words, names_of}
 use Rattle.symbols.proofs.InText.{names_in_text}
 use Rattle.symbols.proofs.Table.{lines_differ}
 use Rattle.analysis.specs.LabelSets.{SmallLaw}
-
--- A line for each name.
-as_many_lines : (os : List Occurrence) (c : ℕ) (ns : List Name) → length (numbered os c ns) ≡ length ns
-as_many_lines os c [] = refl
-as_many_lines os c (n ∷ ns) = ap suc (as_many_lines os (c + cells (kind_of os n.letters)) ns)
+use Rattle.analysis.proofs.FilledTable.{length_numbered}
+use Rattle.analysis.proofs.NewNames.{one_name}
 
 -- A name more at most for each occurrence.
 one_more_at_most : (ns : List Name) (n : Name) → length (with_name ns n) ≤ length ns + 1
@@ -29,18 +26,9 @@ at_most_occurrences ns [] = omega arith
 at_most_occurrences ns (o ∷ os) = omega (arith, one_more_at_most ns o.name, at_most_occurrences (with_name ns o.name) os)
 
 -- An occurrence for each word that is a name.
-counted : (t : Token) (p : ℕ) → length (name_at t p) ≡ name_count t
-counted (name n) p = refl
-counted (number n) p = refl
-counted (keyword k) p = refl
-counted (mark m) p = refl
-counted (sign s) p = refl
-counted (scaling s) p = refl
-counted (relation r) p = refl
-
 as_many_names : (ws : List Word) → length (named_words ws) ≡ name_words ws
 as_many_names [] = refl
-as_many_names (w ∷ ws) = omega (arith, length-append (name_at w.token w.place) (named_words ws), counted w.token w.place, as_many_names ws)
+as_many_names (w ∷ ws) = omega (arith, length-append (name_at w.token w.place) (named_words ws), one_name w.token w.place, as_many_names ws)
 
 as_many_occurrences : (os : List Occurrence) → length (names_of os) ≡ length os
 as_many_occurrences [] = refl
@@ -48,7 +36,7 @@ as_many_occurrences (o ∷ os) = ap suc (as_many_occurrences os)
 
 pub small_tables : SmallLaw
 small_tables l ws t s h =
-    let lines : length (symbols t) ≡ length (names t) = as_many_lines (occurrences t) 0 (names t) in
+    let lines : length (symbols t) ≡ length (names t) = length_numbered (occurrences t) 0 (names t) in
     let found : length (names t) ≤ 0 + length (occurrences t) = at_most_occurrences [] (occurrences t) in
     let same : length (named_words ws) ≡ length (names_of (occurrences t)) = ap length (names_in_text l ws t s) in
     let all : length (names_of (occurrences t)) ≡ length (occurrences t) = as_many_occurrences (occurrences t) in

@@ -15,7 +15,8 @@ use Rattle.analysis.specs.declared.symbol.NameRecord.{NameRecord}
 use Rattle.analysis.specs.Earliest.{earliest_of, earlier_of}
 use Rattle.analysis.specs.LineSearch.{line_from}
 use Rattle.analysis.specs.SymbolTable.{KindAt, label, switch, array, variable, LinesAt, none, one_more, line_numbers, HoldsSymbols}
-use Rattle.analysis.specs.Lines.{letters_of, word_places, NumberedWords, LineSoFar, SoFar}
+use Rattle.analysis.specs.NameLines.{word_places}
+use Rattle.analysis.specs.Lines.{letters_of, NumberedWords, LineSoFar, SoFar}
 use Rattle.analysis.specs.Numbering.{names_among}
 use Rattle.analysis.specs.Counting.{cells_of, cells_in, placed, line_claims, for_claims}
 use Rattle.analysis.proofs.EarlierPlace.{both}

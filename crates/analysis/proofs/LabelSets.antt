@@ -8,6 +8,7 @@ use Rattle.std.proofs.lemmas.Bool.{cases_eq, cases_lt}
 use Rattle.symbols.specs.Symbols.{Symbol, lookup}
 use Rattle.symbols.specs.Jumps.{is_among}
 use Rattle.symbols.specs.Laws.{LinesDiffer}
+use Rattle.symbols.proofs.Table.{rest_differ}
 use Rattle.analysis.specs.SymbolTable.{Numbered}
 use Rattle.analysis.specs.LabelSets.{SmallTable, Sees}
 
@@ -23,9 +24,6 @@ split_at (y ∷ ss) zero s e = let q : y ≡ s = cc in ([], ss, ap (λ (z : Symb
 split_at (y ∷ ss) (suc k) s e = let r = split_at ss k s e in (y ∷ r.0, r.1, ap (λ (l : List Symbol). y ∷ l) r.2)
 
 -- Two lines with the same letters are one.
-rest_differ : (y : Symbol) (ss : List Symbol) → LinesDiffer (y ∷ ss) → LinesDiffer ss
-rest_differ y ss d before between after s s' e same = d (y ∷ before) between after s s' (ap (λ (l : List Symbol). y ∷ l) e) same
-
 not_again : (y : Symbol) (ss : List Symbol) → LinesDiffer (y ∷ ss) → (k : ℕ) (s : Symbol) → slice_get ss k ≡ Some s → y.name.letters ≡ s.name.letters → ⊥
 not_again y ss d k s e same = let r = split_at ss k s e in d [] r.0 r.1 y s (ap (λ (l : List Symbol). y ∷ l) r.2) same
 

@@ -7,7 +7,7 @@ use Rattle.symbols.specs.Symbols.{has_name, with_name}
 use Rattle.analysis.specs.LineSearch.{line_from}
 use Rattle.analysis.specs.Lines.{letters_of}
 use Rattle.analysis.specs.Numbering.{names_among}
-use Rattle.analysis.proofs.Said.{same_letters}
+use Rattle.symbols.proofs.Table.{to_same}
 use Rattle.words.specs.Token.{Token, Word, name, number, keyword, mark, sign, scaling, relation}
 use Rattle.grammar.specs.Meaning.{name_count, names}
 use Rattle.symbols.specs.TextOrder.{name_at, named_words}
@@ -39,7 +39,7 @@ index_append x (y ∷ ys) zs j k h = go (bytes_eq x y) h (index_append x ys zs (
     go false e rest = rest e
 
 pub index_push : (x : List ℕ) (ys : List (List ℕ)) (j : ℕ) → line_from j x ys ≡ None → line_from j x (ys ++ x ∷ []) ≡ Some (j + length ys)
-index_push x [] j h = let q : j ≡ j + 0 = omega arith in ap (λ (b : Bool). cond b (Some j) None) (same_letters x x refl) ∙ ap Some q
+index_push x [] j h = let q : j ≡ j + 0 = omega arith in ap (λ (b : Bool). cond b (Some j) None) (to_same x x refl) ∙ ap Some q
 index_push x (y ∷ ys) j h = go (bytes_eq x y) h (index_push x ys (j + 1))
   where
     go : (b : Bool) → cond b (Some j) (line_from (j + 1) x ys) ≡ None → (line_from (j + 1) x ys ≡ None → line_from (j + 1) x (ys ++ x ∷ []) ≡ Some (j + 1 + length ys)) → cond b (Some j) (line_from (j + 1) x (ys ++ x ∷ [])) ≡ Some (j + length (y ∷ ys))
@@ -70,7 +70,7 @@ among_bound ns (x ∷ xs) =
     go true = omega arith
     go false = let l = length_push ns x in omega arith
 
-one_name : (t : Token) (p : ℕ) → length (name_at t p) ≡ name_count t
+pub one_name : (t : Token) (p : ℕ) → length (name_at t p) ≡ name_count t
 one_name (name n) p = refl
 one_name (number n) p = refl
 one_name (keyword k) p = refl

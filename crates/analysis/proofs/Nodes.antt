@@ -4,8 +4,6 @@ use Rattle.parser.specs.declared.table.Record.{Record}
 use Rattle.parser.specs.declared.node.Node.TheVariants.{Empty}
 use Rattle.parser.specs.Records.{nodes, words}
 use Rattle.analysis.specs.Letters.{letters_in}
-use Rattle.analysis.specs.SymbolTable.{line_numbers}
-use Rattle.analysis.specs.Lines.{word_places}
 
 pub node_within : (rs : List Record) (i : ℕ) (d : Record) → i < length rs → (get_or rs i d).node ≡ get_or (nodes rs) i Empty
 node_within [] i d h = absurd (omega arith)
@@ -16,26 +14,6 @@ pub node_past : (rs : List Record) (i : ℕ) → length rs ≤ i → Empty ≡ g
 node_past [] i h = refl
 node_past (r ∷ rs) zero h = absurd (omega arith)
 node_past (r ∷ rs) (suc i) h = node_past rs i (omega arith)
-
-pub number_within : (rs : List Record) (i : ℕ) (d : Record) → i < length rs → (get_or rs i d).symbol ≡ get_or (line_numbers rs) i 0
-number_within [] i d h = absurd (omega arith)
-number_within (r ∷ rs) zero d h = refl
-number_within (r ∷ rs) (suc i) d h = number_within rs i d (omega arith)
-
-pub number_past : (rs : List Record) (i : ℕ) → length rs ≤ i → 0 ≡ get_or (line_numbers rs) i 0
-number_past [] i h = refl
-number_past (r ∷ rs) zero h = absurd (omega arith)
-number_past (r ∷ rs) (suc i) h = number_past rs i (omega arith)
-
-pub place_within : (rs : List Record) (i : ℕ) (d : Record) → i < length rs → (get_or rs i d).word.place ≡ get_or (word_places rs) i 0
-place_within [] i d h = absurd (omega arith)
-place_within (r ∷ rs) zero d h = refl
-place_within (r ∷ rs) (suc i) d h = place_within rs i d (omega arith)
-
-pub place_past : (rs : List Record) (i : ℕ) → length rs ≤ i → 0 ≡ get_or (word_places rs) i 0
-place_past [] i h = refl
-place_past (r ∷ rs) zero h = absurd (omega arith)
-place_past (r ∷ rs) (suc i) h = place_past rs i (omega arith)
 
 module _ (text : List ℕ) where
   pub letters_within : (rs : List Record) (i : ℕ) (d : Record) → i < length rs → letters_in text (get_or rs i d).word ≡ get_or (map (letters_in text) (words rs)) i []

@@ -6,7 +6,7 @@ use Rattle.symbols.specs.Types.{told}
 use Rattle.symbols.specs.Rules.{passing_claims}
 use Rattle.analysis.specs.declared.symbol.NameRecord.{NameRecord}
 use Rattle.analysis.specs.Earliest.{earliest_of, earlier_of}
-use Rattle.analysis.specs.Lines.{word_places}
+use Rattle.analysis.specs.NameLines.{word_places}
 use Rattle.analysis.specs.Counting.{cells_of, cells_in, with_first, placed, line_claims, PlacesCells}
 use Rattle.analysis.proofs.EarlierPlace.{earliest_append}
 

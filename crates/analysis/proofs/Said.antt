@@ -7,12 +7,11 @@ use Rattle.grammar.specs.Tree.{Name}
 use Rattle.symbols.specs.Occurrences.{Role, as_label, as_switch, as_array, of_type, in_switch, as_target, as_selector, as_variable, as_element, Occurrence, at}
 use Rattle.symbols.specs.Symbols.{definition, declared_type, or_else, first_said}
 use Rattle.symbols.specs.Types.{told}
+use Rattle.symbols.proofs.Table.{to_same}
+use Rattle.symbols.proofs.Names.{said_append}
 use Rattle.symbols.specs.Rules.{is_some, target, defines_again, second_definitions}
 
--- The comparison of letters.
-pub same_letters : (x y : List ℕ) → x ≡ y → bytes_eq x y ≡ true
-same_letters x y = (bytes_eq-Decides x y).1
-
+-- Other letters are told apart.
 pub other_letters : (x y : List ℕ) → (x ≡ y → ⊥) → bytes_eq x y ≡ false
 other_letters x y no-path = go (bytes_eq x y) refl
   where
@@ -30,26 +29,16 @@ module _ {A : Type 0} where
   some_or None w = refl
 
 module _ {A : Type 0} (f : Role → Option A) where
-  either_says : (b : Bool) (v u w : Option A) → cond b (or_else v (or_else u w)) (or_else u w) ≡ or_else (cond b (or_else v u) u) w
-  either_says true (Some x) u w = refl
-  either_says true None u w = refl
-  either_says false v u w = refl
-
-  -- What the first of two lists says goes before what the second says.
-  pub said_append : (xs ys : List Occurrence) (y : List ℕ) → first_said f (xs ++ ys) y ≡ or_else (first_said f xs y) (first_said f ys y)
-  said_append [] ys y = refl
-  said_append (o ∷ xs) ys y = rw (said_append xs ys y) (either_says (bytes_eq y o.name.letters) (f o.role) (first_said f xs y) (first_said f ys y))
-
   -- One more occurrence is heeded for its own name alone.
   pub said_own : (os : List Occurrence) (role : Role) (x : Name) (y : List ℕ) → y ≡ x.letters → first_said f (os ++ at role x ∷ []) y ≡ or_else (first_said f os y) (f role)
   said_own os role x y e =
-      said_append os (at role x ∷ []) y
+      said_append f os (at role x ∷ []) y
       ∙ ap (λ (u : Option A). or_else (first_said f os y) u)
-      (ap (λ (b : Bool). cond b (or_else (f role) None) None) (same_letters y x.letters e) ∙ or_none (f role))
+      (ap (λ (b : Bool). cond b (or_else (f role) None) None) (to_same y x.letters e) ∙ or_none (f role))
 
   pub said_other : (os : List Occurrence) (role : Role) (x : Name) (y : List ℕ) → (y ≡ x.letters → ⊥) → first_said f (os ++ at role x ∷ []) y ≡ first_said f os y
   said_other os role x y differs =
-      said_append os (at role x ∷ []) y
+      said_append f os (at role x ∷ []) y
       ∙ (ap (λ (u : Option A). or_else (first_said f os y) u)
       (ap (λ (b : Bool). cond b (or_else (f role) None) None) (other_letters y x.letters differs))
       ∙ or_none (first_said f os y))

@@ -5,7 +5,7 @@ use Rattle.parser.specs.declared.node.Node.{Node}
 use Rattle.parser.specs.declared.table.Record.{Record}
 use Rattle.parser.specs.Records.{words, nodes}
 use Rattle.analysis.specs.SymbolTable.{line_numbers}
-use Rattle.analysis.specs.Lines.{word_places}
+use Rattle.analysis.specs.NameLines.{word_places}
 
 pub numbers_set : (rs : List Record) (w : ℕ) (r : Record) → line_numbers (set rs w r) ≡ set (line_numbers rs) w r.symbol
 numbers_set [] w r = refl

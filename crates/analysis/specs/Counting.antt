@@ -11,7 +11,7 @@ use Rattle.analysis.specs.declared.symbol.NameKind.TheVariants.{Label, Switch, A
 use Rattle.analysis.specs.declared.symbol.NameRecord.{NameRecord}
 use Rattle.analysis.specs.declared.cell_count.CellCount.{CellCount}
 use Rattle.analysis.specs.Earliest.{earliest_of}
-use Rattle.analysis.specs.Lines.{word_places}
+use Rattle.analysis.specs.NameLines.{word_places}
 
 -- How many cells a line's name has.
 abbrev pub cells_of : NameKind → ℕ

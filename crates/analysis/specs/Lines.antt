@@ -10,6 +10,7 @@ use Rattle.symbols.specs.Rules.{is_defined, is_typed, is_target}
 use Rattle.analysis.specs.declared.symbol.NameRecord.{NameRecord}
 use Rattle.analysis.specs.LineSearch.{line_from}
 use Rattle.analysis.specs.SymbolTable.{KindAt, line_numbers}
+use Rattle.analysis.specs.NameLines.{word_places}
 use Rattle.analysis.specs.Kinds.{is_defined_kind, is_typed_as}
 
 -- The number of the line of these letters.
@@ -18,11 +19,6 @@ letters_of ns = map (λ (n : Name). n.letters) ns
 
 abbrev pub line_of : List Name → List ℕ → Option ℕ
 line_of ns x = line_from 0 x (letters_of ns)
-
--- The place of each word, as the work table has it.
-abbrev pub word_places : List Record → List ℕ
-word_places [] = []
-word_places (r ∷ rs) = r.word.place ∷ word_places rs
 
 -- The words of the view stand in the work table, each name's word with the number of its line, and every line is the
 -- line of its own letters.

@@ -10,8 +10,8 @@ ghost use Rattle.analysis.specs.Counting.{cells_of, PlacesCells};
 use crate::bounds::value;
 use crate::cell_count::CellCount;
 use crate::earliest::earlier;
+use crate::lines::place_of;
 use crate::symbol::{NameKind, NameRecord};
-use crate::words_of::place_of;
 use parser::node::Bound;
 use parser::table::Record;
 

@@ -5,9 +5,9 @@ ghost use Rattle.analysis.specs.Heeding.{DeclaresName, DeclaresRow, DeclaresGrou
 use crate::declaration::{Declaration, Pass};
 use crate::earliest::earlier;
 use crate::heed::{declared_line, marked_line, offends_line};
+use crate::lines::{number_of, place_of};
 use crate::symbol::{NameKind, NameRecord};
 use crate::tree::node_of;
-use crate::words_of::{line_of, place_of};
 use parser::node::Node;
 use parser::table::Record;
 use symbols::value_type::ValueType;
@@ -22,7 +22,7 @@ fn declare(
 ) -> Option<usize>
     ensures { DeclaresName pass records.now w d names.old names.new result }
 {
-    let k = line_of(records, w);
+    let k = number_of(records, w);
     if k < names.len() {
         let line = names[k];
         match pass {

@@ -29,4 +29,3 @@ pub mod tree;
 pub mod types;
 pub mod usage;
 pub mod verdict;
-mod words_of;

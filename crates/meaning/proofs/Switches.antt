@@ -165,7 +165,7 @@ said_by [] x k e = absurd (let z : ◌≡◌ {A = ℕ} 0 1 = cc in omega arith)
 said_by (o ∷ os) x k e = said_if o os x k (bytes_eq x o.name.letters) e (said_by os x k)
 
 -- Only the head of a switch defines one.
-switch_role : (r : Role) (ls : Row Name) → definition r ≡ Some (a_switch ls) → r ≡ as_switch ls
+pub switch_role : (r : Role) (ls : Row Name) → definition r ≡ Some (a_switch ls) → r ≡ as_switch ls
 switch_role as_label ls e = absurd (let z : ◌≡◌ {A = ℕ} 0 1 = cc in omega arith)
 switch_role (as_switch xs) ls e = let q : xs ≡ ls = cc in ap as_switch q
 switch_role (as_array l h) ls e = absurd (let z : ◌≡◌ {A = ℕ} 0 1 = cc in omega arith)

@@ -74,7 +74,7 @@ module _ (L : ℕ) (r : Parser) (ready : Ready r) where
   pub goes_as_factor : (rk : ℕ) → heads (a_prefix rk) (ahead r) ≡ None → Goes L r r (here (goto (begin (a (ranked rk))))) (here (part (begin (a factor)) (behind_factor rk)))
   goes_as_factor rk e = record { moves = moves_none r ready; leads = λ limit d k h. as_factor limit (length r.text.now) rk (ahead r) d k e }
 
-variable_value : (v : View) (x : Variable) (i : ℕ) → VariableAt v x i → ExpAt v (value_of x) i
+pub variable_value : (v : View) (x : Variable) (i : ℕ) → VariableAt v x i → ExpAt v (value_of x) i
 variable_value v (whole x) i h = h
 variable_value v (indexed x e) i h = h
 

@@ -29,15 +29,10 @@ use Rattle.analysis.specs.NameLines.{HoldsPlaces}
 use Rattle.analysis.specs.Numbering.{view_of}
 use Rattle.analysis.specs.SymbolTable.{HoldsSymbols}
 use Rattle.analysis.specs.Verdicts.{OffencesOf, verdict_in}
+use Rattle.symbols.proofs.Telling.{sentence}
 use Rattle.analysis.proofs.FewLines.{small_tables}
 use Rattle.analysis.proofs.NameLines.{places_held}
 use Rattle.reading.specs.Reading.{TextRead, view}
-
--- A tree that is read is the tree of a sentence.
-sentence : (limit end : ℕ) (ws : List Word) (t : Program) → parsed limit end ws ≡ tree t → Sentence limit ws t
-sentence limit end ws t e =
-    let z : limit - 0 ≡ limit = omega arith in
-    run_at limit ws t end ws initial (λ rs v h. rw z at h) e
 
 module _ (text : List ℕ) (before table table' : List Record) (names names' : List NameRecord) (s : SentenceRecord) (filled : NameTable) where
   abbrev v : View

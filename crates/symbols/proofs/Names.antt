@@ -21,7 +21,7 @@ module _ {A : Type 0} (f : Role → Option A) where
   either_says true None u w = refl
   either_says false v u w = refl
 
-  said_append : (xs ys : List Occurrence) (x : List ℕ) → first_said f (xs ++ ys) x ≡ or_else (first_said f xs x) (first_said f ys x)
+  pub said_append : (xs ys : List Occurrence) (x : List ℕ) → first_said f (xs ++ ys) x ≡ or_else (first_said f xs x) (first_said f ys x)
   said_append [] ys x = refl
   said_append (o ∷ xs) ys x = rw (said_append xs ys x) (either_says (bytes_eq x o.name.letters) (f o.role) (first_said f xs x) (first_said f ys x))
 

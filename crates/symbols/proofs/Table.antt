@@ -130,6 +130,10 @@ lines_distinct os c (n ∷ ns) d (b ∷ before) between after s s' e same =
     let r : numbered os (c + cells (kind_of os n.letters)) ns ≡ before ++ s ∷ (between ++ s' ∷ after) = cc in
     lines_distinct os (c + cells (kind_of os n.letters)) ns d.1 before between after s s' r same
 
+-- The lines behind the first differ too.
+pub rest_differ : (y : Symbol) (ss : List Symbol) → LinesDiffer (y ∷ ss) → LinesDiffer ss
+rest_differ y ss d before between after s s' e same = d (y ∷ before) between after s s' (ap (λ (l : List Symbol). y ∷ l) e) same
+
 pub lines_differ : (t : Program) → LinesDiffer (symbols t)
 lines_differ t = lines_distinct (occurrences t) 0 (names t) (names_distinct [] (occurrences t) tt)
 

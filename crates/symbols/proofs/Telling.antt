@@ -17,7 +17,7 @@ use Rattle.symbols.specs.TextLaw.{Told, no_words, no_sentence, too_deep, breaks_
 use Rattle.symbols.proofs.Offences.{accepted_to_keeps_all, refused_to_first_broken}
 
 -- A tree that is read is the tree of a sentence.
-sentence : (limit end : ℕ) (ws : List Word) (t : Program) → parsed limit end ws ≡ tree t → Sentence limit ws t
+pub sentence : (limit end : ℕ) (ws : List Word) (t : Program) → parsed limit end ws ≡ tree t → Sentence limit ws t
 sentence limit end ws t e =
     let z : limit - 0 ≡ limit = omega arith in
     run_at limit ws t end ws initial (λ rs v h. rw z at h) e

@@ -23,20 +23,20 @@ use Rattle.meaning.proofs.Storing.{cells_end}
 use Rattle.translator.specs.Fits.{ExtentFits}
 
 -- What is asked for as a variable, or as an array, is one.
-from_is_variable : (k : Kind) → is_variable k ≡ true → k ≡ a_variable
+pub from_is_variable : (k : Kind) → is_variable k ≡ true → k ≡ a_variable
 from_is_variable a_label e = absurd (true_is_not_false (sym e))
 from_is_variable (a_switch ls) e = absurd (true_is_not_false (sym e))
 from_is_variable (an_array l h) e = absurd (true_is_not_false (sym e))
 from_is_variable a_variable e = refl
 
-from_is_array : (k : Kind) → is_array k ≡ true → (l : Bound) × (h : Bound) × (k ≡ an_array l h)
+pub from_is_array : (k : Kind) → is_array k ≡ true → (l : Bound) × (h : Bound) × (k ≡ an_array l h)
 from_is_array a_label e = absurd (true_is_not_false (sym e))
 from_is_array (a_switch ls) e = absurd (true_is_not_false (sym e))
 from_is_array (an_array l h) e = (l, h, refl)
 from_is_array a_variable e = absurd (true_is_not_false (sym e))
 
 -- Only an array declaration defines an array.
-array_role : (r : Role) (l h : Bound) → definition r ≡ Some (an_array l h) → r ≡ as_array l h
+pub array_role : (r : Role) (l h : Bound) → definition r ≡ Some (an_array l h) → r ≡ as_array l h
 array_role as_label l h e = absurd (let z : ◌≡◌ {A = ℕ} 0 1 = cc in omega arith)
 array_role (as_switch xs) l h e = absurd (let z : ◌≡◌ {A = ℕ} 0 1 = cc in omega arith)
 array_role (as_array a b) l h e = let p : a ≡ l = cc in let q : b ≡ h = cc in cc

@@ -7,7 +7,7 @@ use Rattle.symbols.specs.Occurrences.{in_switch, Occurrence, at, each, in_exp, i
 use Rattle.symbols.specs.Symbols.{Kind, a_label, a_switch, an_array, a_variable, definition, or_else, first_said, or_variable, kind_of, cells, Symbol, numbered, symbols, names}
 use Rattle.symbols.specs.Laws.{In, here, later, LinesDiffer}
 use Rattle.symbols.proofs.Lists.{in_to_split}
-use Rattle.symbols.proofs.Table.{from_same, lines_differ}
+use Rattle.symbols.proofs.Table.{from_same, lines_differ, rest_differ}
 use Rattle.meaning.specs.Names.{labels_of}
 use Rattle.translator.specs.Generator.{Entry}
 use Rattle.translator.specs.Translation.{rows_code, table_code, tables_code, table_size}
@@ -53,16 +53,13 @@ none_named o os (s ∷ ss) none =
     go_on true e rest = absurd (none s here (from_same s.name.letters o.name.letters e))
     go_on false e rest = omega (arith, rest)
 
-tail_differ : (s : Symbol) (ss : List Symbol) → LinesDiffer (s ∷ ss) → LinesDiffer ss
-tail_differ s ss d before between after x y e = d (s ∷ before) between after x y (ap (λ l. s ∷ l) e)
-
 head_differs : (s : Symbol) (ss : List Symbol) → LinesDiffer (s ∷ ss) → (x : Symbol) → In x ss → s.name.letters ≡ x.name.letters → ⊥
 head_differs s ss d x i e = let r = in_to_split x ss i in d [] r.before r.after s x (ap (λ l. s ∷ l) r.whole) e
 
 -- One occurrence more adds its weight once at most.
 one_more : (o : Occurrence) (os : List Occurrence) (ss : List Symbol) → LinesDiffer ss → lines_weight (o ∷ os) ss ≤ said_weight (definition o.role) + lines_weight os ss
 one_more o os [] d = omega arith
-one_more o os (s ∷ ss) d = go_on (bytes_eq s.name.letters o.name.letters) refl (one_more o os ss (tail_differ s ss d))
+one_more o os (s ∷ ss) d = go_on (bytes_eq s.name.letters o.name.letters) refl (one_more o os ss (rest_differ s ss d))
   where
     go_on : (b : Bool) → bytes_eq s.name.letters o.name.letters ≡ b → lines_weight (o ∷ os) ss ≤ said_weight (definition o.role) + lines_weight os ss
         → said_weight (cond b (or_else (definition o.role) (first_said definition os s.name.letters)) (first_said definition os s.name.letters)) + lines_weight (o ∷ os) ss

@@ -33,7 +33,8 @@ use Rattle.translator.proofs.Passing.{operations_of, Passes, halt, passes_to_wel
 use Rattle.translator.proofs.PassingLoops.{Sized}
 use Rattle.translator.proofs.PassingStatements.{statement_begins, statement_passes}
 use Rattle.translator.proofs.PassingTables.{tables_pass}
-use Rattle.translator.proofs.PassingUses.{said_by, is_said, defines_switch, uses_sound}
+use Rattle.meaning.proofs.Switches.{switch_role}
+use Rattle.translator.proofs.PassingUses.{said_by, is_said, uses_sound}
 use Rattle.translator.proofs.PassingLabels.{label_begins, in_statements, statement_names, label_in_statements, switch_list}
 
 -- A tree that keeps all rules is accepted.
@@ -153,7 +154,7 @@ module _ {V : Type 0} (kind : Kind V) (t : Program) (ok : verdict t ≡ accepted
           let said = is_said (first_said definition (occurrences t) x) (a_switch xs) (sym (line_kind s (occurrences t) 0 (names t) i) ∙ e) (λ z. let w : ◌≡◌ {A = ℕ} 0 1 = cc in omega arith) in
           let o = said_by definition (occurrences t) x (a_switch xs) said in
           labels_all (λ l. Begins c (label_at l)) xs
-          (λ y j. uses_sound t ok c label_at begin (at in_switch y) (switch_list t o.0 (at in_switch y) xs o.1 (defines_switch o.0.role xs o.3) j))
+          (λ y j. uses_sound t ok c label_at begin (at in_switch y) (switch_list t o.0 (at in_switch y) xs o.1 (switch_role o.0.role xs o.3) j))
 
   tail : drop halt_at c ≡ plain Halt ∷ tables_code label_at (symbols t) []
   tail = halt_there (symbols t) (statements t)

@@ -16,6 +16,7 @@ use Rattle.symbols.proofs.Names.{names_agree}
 use Rattle.symbols.proofs.Table.{from_same, name_said}
 use Rattle.meaning.specs.Names.{names_in}
 use Rattle.translator.specs.Generator.{Entry}
+use Rattle.translator.proofs.AcceptedNames.{from_is_variable, from_is_array, array_role}
 use Rattle.translator.proofs.Resuming.{Begins}
 use Rattle.translator.proofs.PassingExpressions.{Packs, Use}
 
@@ -55,28 +56,6 @@ defines_label as_selector e = clash (cc)
 defines_label as_variable e = clash (cc)
 defines_label as_element e = clash (cc)
 
-defines_array : (r : Role) (l h : Bound) → definition r ≡ Some (an_array l h) → r ≡ as_array l h
-defines_array as_label l h e = clash (cc)
-defines_array (as_switch xs) l h e = clash (cc)
-defines_array (as_array k i) l h e = cc
-defines_array (of_type t) l h e = clash (cc)
-defines_array in_switch l h e = clash (cc)
-defines_array as_target l h e = clash (cc)
-defines_array as_selector l h e = clash (cc)
-defines_array as_variable l h e = clash (cc)
-defines_array as_element l h e = clash (cc)
-
-pub defines_switch : (r : Role) (xs : Row Name) → definition r ≡ Some (a_switch xs) → r ≡ as_switch xs
-defines_switch as_label xs e = clash (cc)
-defines_switch (as_switch ys) xs e = cc
-defines_switch (as_array k i) xs e = clash (cc)
-defines_switch (of_type t) xs e = clash (cc)
-defines_switch in_switch xs e = clash (cc)
-defines_switch as_target xs e = clash (cc)
-defines_switch as_selector xs e = clash (cc)
-defines_switch as_variable xs e = clash (cc)
-defines_switch as_element xs e = clash (cc)
-
 -- A kind other than a variable's comes of a definition.
 pub is_said : (w : Option Kind) (k : Kind) → or_variable w ≡ k → (k ≡ a_variable → ⊥) → w ≡ Some k
 is_said None k e n = absurd (n (sym e))
@@ -87,18 +66,6 @@ kind_label a_label e = refl
 kind_label (a_switch xs) e = clash (cc)
 kind_label (an_array l h) e = clash (cc)
 kind_label a_variable e = clash (cc)
-
-kind_variable : (k : Kind) → is_variable k ≡ true → k ≡ a_variable
-kind_variable a_label e = clash (cc)
-kind_variable (a_switch xs) e = clash (cc)
-kind_variable (an_array l h) e = clash (cc)
-kind_variable a_variable e = refl
-
-kind_array : (k : Kind) → is_array k ≡ true → (l : Bound) × (h : Bound) × (k ≡ an_array l h)
-kind_array a_label e = clash (cc)
-kind_array (a_switch xs) e = clash (cc)
-kind_array (an_array l h) e = (l, h, refl)
-kind_array a_variable e = clash (cc)
 
 -- A bound within 9,999 of 0, as a number that is 10,000 more.
 near : (s : Sign) (n : ℕ) → n ≤ 9999 → (b : ℕ) × (signed s n +ℤ pos 10000 ≡ pos b) × (1 ≤ b) × (b ≤ 19999)
@@ -143,9 +110,9 @@ module _ (t : Program) (ok : verdict t ≡ accepted) where
 
     element : (o : Occurrence) → In o (occurrences t) → is_array (kind_in (symbols t) o.name.letters) ≡ true → Packs ((names_in (symbols t)).extent o.name.letters)
     element o i e =
-        let k = kind_array (kind_in (symbols t) o.name.letters) e in
+        let k = from_is_array (kind_in (symbols t) o.name.letters) e in
         let p = said_of o (an_array k.0 k.1) i k.2 (λ z. clash (cc)) in
-        packs_array o.name.letters k.0 k.1 k.2 (bounds_in_range t ok p.0 k.0 k.1 p.1 (defines_array p.0.role k.0 k.1 p.3))
+        packs_array o.name.letters k.0 k.1 k.2 (bounds_in_range t ok p.0 k.0 k.1 p.1 (array_role p.0.role k.0 k.1 p.3))
 
     pub uses_sound : (o : Occurrence) → In o (occurrences t) → Use c (names_in (symbols t)) label_at o.role o.name
     uses_sound o i = by_role o.role refl
@@ -158,5 +125,5 @@ module _ (t : Program) (ok : verdict t ≡ accepted) where
         by_role in_switch e = goes o i (suited o in_switch i e)
         by_role as_target e = goes o i (suited o as_target i e)
         by_role as_selector e = tt
-        by_role as_variable e = packs_variable o.name.letters (kind_variable (kind_in (symbols t) o.name.letters) (suited o as_variable i e))
+        by_role as_variable e = packs_variable o.name.letters (from_is_variable (kind_in (symbols t) o.name.letters) (suited o as_variable i e))
         by_role as_element e = element o i (suited o as_element i e)

@@ -9,7 +9,7 @@ ghost use Rattle.words.specs.Inner.{in_class};
 
 // The bytes that a run is made of.
 #[derive(Clone, Copy)]
-pub enum Class {
+pub(crate) enum Class {
     Blank,
     LetterOrDigit,
     Digit,
@@ -29,7 +29,7 @@ fn is_in(class: Class, b: u8) -> bool
 }
 
 // How many bytes of the class stand at `from`, before the first other or the end.
-pub fn run(text: &[u8], from: usize, class: Class) -> usize
+pub(crate) fn run(text: &[u8], from: usize, class: Class) -> usize
     requires { from ≤ length text.now }
     ensures is { result ≡ prefix_len (in_class class) (drop from text.now) }
     ensures within { from + result ≤ length text.now }
@@ -42,7 +42,7 @@ pub fn run(text: &[u8], from: usize, class: Class) -> usize
 }
 
 // Are the two the same bytes?
-pub fn equal(a: &[u8], b: &[u8]) -> bool
+pub(crate) fn equal(a: &[u8], b: &[u8]) -> bool
     ensures { result ≡ bytes_eq a.now b.now }
 {
     if a.len() != b.len() {
@@ -57,7 +57,7 @@ pub fn equal(a: &[u8], b: &[u8]) -> bool
 }
 
 // The number that the digits write.
-pub fn value(digits: &[u8]) -> u32
+pub(crate) fn value(digits: &[u8]) -> u32
     requires short { length digits.now ≤ 9 }
     requires digits { MadeOf is_ascii_digit digits.now }
     ensures { result ≡ value_of digits.now }

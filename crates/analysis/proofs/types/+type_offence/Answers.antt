@@ -6,7 +6,8 @@ use Rattle.symbols.specs.Types.{arithmetic, truth_value, exp_offences, variable_
 use Rattle.analysis.specs.Earliest.{earliest_of}
 use Rattle.analysis.proofs.EarlierPlace.{both}
 use Rattle.analysis.proofs.ItemNodes.{act, items_node, earliest_joined, from_labelled, from_conditional, from_repeated, from_assigned, from_switched, from_input, from_printed}
-use Rattle.analysis.proofs.ExpRows.{value_at, singles, singles_at, each_single}
+use Rattle.parser.proofs.Factors.{variable_value}
+use Rattle.analysis.proofs.ExpRows.{singles, singles_at, each_single}
 use Rattle.analysis.proofs.TypeOffences.{retyped, no_typed_part}
 use Rattle.analysis.proofs.types.+type_offence.Goals as goal
 
@@ -48,7 +49,7 @@ returns-in-Assigned t c = λ v ss u h p k.
     from_assigned (At ss c.earlier-in-Assigned.result) (items_node c.args.records.now v c.args.i _ h.nodes c.in-Assigned.ensures.is u k)
     (λ y e l m. c.earlier-in-Assigned.ensures
     ∙ both c.exp_offence-left.result c.exp_offence-right.result (exp_offences ss (variable_type ss y) (value_of y)) (exp_offences ss (variable_type ss y) e)
-    (retyped ss (value_of y) (c.exp_offence-left.ensures v ss (value_of y) h p (value_at v y c.in-Assigned.a l)) (c.variable_type-t.ensures v ss y h l))
+    (retyped ss (value_of y) (c.exp_offence-left.ensures v ss (value_of y) h p (variable_value v y c.in-Assigned.a l)) (c.variable_type-t.ensures v ss y h l))
     (retyped ss e (c.exp_offence-right.ensures v ss e h p m) (c.variable_type-t.ensures v ss y h l)))
 
 pub returns-in-Switched : goal.returns-in-Switched
@@ -59,7 +60,7 @@ returns-in-Switched t c = λ v ss u h p k.
 pub returns-in-Input : goal.returns-in-Input
 returns-in-Input t c = λ v ss u h p k.
     from_input (At ss c.exp_offence-in-Input.result) (items_node c.args.records.now v c.args.i _ h.nodes c.in-Input.ensures.is u k)
-    (λ y l. c.exp_offence-in-Input.ensures v ss (value_of y) h p (value_at v y c.in-Input.a l))
+    (λ y l. c.exp_offence-in-Input.ensures v ss (value_of y) h p (variable_value v y c.in-Input.a l))
 
 pub returns-in-Printed : goal.returns-in-Printed
 returns-in-Printed t c = λ v ss u h p k.

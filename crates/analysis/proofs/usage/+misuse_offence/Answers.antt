@@ -7,7 +7,8 @@ use Rattle.symbols.specs.Rules.{suits, misused_names}
 use Rattle.analysis.specs.Earliest.{earliest_of}
 use Rattle.analysis.proofs.EarlierPlace.{both}
 use Rattle.analysis.proofs.ItemNodes.{act, items_node, from_joined, from_labelled, from_conditional, from_repeated, from_assigned, from_go, from_switched, from_input, from_printed, from_switch}
-use Rattle.analysis.proofs.ExpRows.{value_at, singles, singles_at, each_single}
+use Rattle.parser.proofs.Factors.{variable_value}
+use Rattle.analysis.proofs.ExpRows.{singles, singles_at, each_single}
 use Rattle.analysis.proofs.Misuses.{earliest_misused, one_misused, no_use}
 use Rattle.analysis.proofs.usage.+misuse_offence.Goals as goal
 
@@ -52,7 +53,7 @@ returns-in-Assigned t c = λ v ss u h p k.
     from_assigned (At ss c.earlier-in-Assigned.result) (items_node c.args.records.now v c.args.i _ h.nodes c.in-Assigned.ensures.is u k)
     (λ y e l m. c.earlier-in-Assigned.ensures
     ∙ earliest_misused ss c.exp_misuse-left.result c.exp_misuse-right.result (in_exp (value_of y)) (in_exp e)
-    (c.exp_misuse-left.ensures v ss (value_of y) h p (value_at v y c.in-Assigned.a l)) (c.exp_misuse-right.ensures v ss e h p m))
+    (c.exp_misuse-left.ensures v ss (value_of y) h p (variable_value v y c.in-Assigned.a l)) (c.exp_misuse-right.ensures v ss e h p m))
 
 pub returns-in-Go : goal.returns-in-Go
 returns-in-Go t c = λ v ss u h p k.
@@ -69,7 +70,7 @@ returns-in-Switched t c = λ v ss u h p k.
 pub returns-in-Input : goal.returns-in-Input
 returns-in-Input t c = λ v ss u h p k.
     from_input (At ss c.exp_misuse.result) (items_node c.args.records.now v c.args.i _ h.nodes c.in-Input.ensures.is u k)
-    (λ y l. c.exp_misuse.ensures v ss (value_of y) h p (value_at v y c.in-Input.a l))
+    (λ y l. c.exp_misuse.ensures v ss (value_of y) h p (variable_value v y c.in-Input.a l))
 
 pub returns-in-Printed : goal.returns-in-Printed
 returns-in-Printed t c = λ v ss u h p k.

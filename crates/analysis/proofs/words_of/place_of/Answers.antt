@@ -1,8 +1,0 @@
-use Rattle.analysis.proofs.Nodes.{place_within, place_past}
-use Rattle.analysis.proofs.words_of.place_of.Goals as goal
-
-pub returns-then-w-records : goal.returns-then-w-records
-returns-then-w-records c = place_within c.args.records.now c.args.w _ c.if-w-records.true
-
-pub returns-else-w-records : goal.returns-else-w-records
-returns-else-w-records c = place_past c.args.records.now c.args.w c.if-w-records.false
