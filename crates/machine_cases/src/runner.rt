@@ -1,5 +1,10 @@
 // Runs a code from nothing: check, prepare, start, and advance until it ends.
 
+ghost use Rattle.std.specs.Prelude.{◌≡◌, length};
+ghost use Rattle.code.specs.Check.{check as check_of};
+ghost use Rattle.code.specs.Codes.{code_of};
+ghost use Rattle.machine_cases.specs.Told.{case_sizes, ending_number, roll_byte, text_place, ToldRefusal};
+
 use code::check::check;
 use code::checked::Checked;
 use code::sizes::Sizes;
@@ -10,7 +15,13 @@ use rolls::roll::Roll;
 
 // What a run came to: steps, figures posted, the number of its fault (1 at the end, 0 where it still goes), the text place
 // and the place in the roll.
-pub fn told(status: Status) -> (u64, usize, u8, u64, usize) {
+pub fn told(status: Status) -> (u64, usize, u8, u64, usize)
+    ensures count { result.0 ≡ status.count }
+    ensures posted { result.1 ≡ status.posted }
+    ensures ending { result.2 ≡ ending_number status.standing }
+    ensures text { result.3 ≡ text_place status.standing }
+    ensures roll { result.4 ≡ roll_byte status.standing }
+{
     match status.standing {
         Standing::Going => (status.count, status.posted, 0, 0, 0),
         Standing::End => (status.count, status.posted, 1, 0, 0),
@@ -33,7 +44,9 @@ pub fn run<'a, R: Roll>(
     stack: &mut [R::Figure],
     book: &mut [R::Figure],
     roll: &mut R,
-) -> (u64, usize, u8, u64, usize) {
+) -> (u64, usize, u8, u64, usize)
+    ensures { ToldRefusal (check_of (code_of (case_sizes (length operations.now)) operations.now operands.now)) result.2 }
+{
     let length = if operations.len() > 4_096 {
         0
     } else {

@@ -7,7 +7,7 @@ use symbols::value_type::ValueType;
 use words::token::{Sign, Token};
 use words::word::Word;
 
-pub const TEXT: &[u8] =
+pub(crate) const TEXT: &[u8] =
     b"array(rate[-2:1]); boolean(done); switch next := (more); more: x := rate[-1]";
 
 fn name_record(place: usize, length: usize, symbol: usize) -> Record {
@@ -22,7 +22,7 @@ fn name_record(place: usize, length: usize, symbol: usize) -> Record {
 }
 
 // The words `rate`, `done`, `next`, `more` and `x`, where they first appear.
-pub fn records() -> [Record; 5] {
+pub(crate) fn records() -> [Record; 5] {
     [
         name_record(6, 4, 0),
         name_record(27, 4, 1),
@@ -43,7 +43,7 @@ fn line(word: usize, kind: NameKind, value_type: ValueType, first: usize) -> Nam
     }
 }
 
-pub fn lines() -> [NameRecord; 5] {
+pub(crate) fn lines() -> [NameRecord; 5] {
     let low = Bound {
         sign: Sign::Minus,
         size: 2,

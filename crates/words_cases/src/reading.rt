@@ -36,7 +36,7 @@ pub struct Outcome {
     pub at: usize,
 }
 
-pub fn outcome_of(text: &[u8]) -> Outcome {
+pub(crate) fn outcome_of(text: &[u8]) -> Outcome {
     let mut table = [EMPTY; 512];
     match cut_words(text, &mut table) {
         Ok(count) => Outcome {
