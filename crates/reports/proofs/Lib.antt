@@ -1,4 +1,5 @@
 pub mod Reasons
 pub mod WordLetters
 pub mod SettingSteps
+pub mod SettingNumbers
 pub mod Parts
