@@ -1,5 +1,5 @@
 -- How a report shows a place of a text: the part of its line that is shown, and under it a caret that points at the place.
-use Rattle.std.specs.Prelude.{ℕ, ◌-◌, ◌/◌, ◌%◌, min, Bool, false, not, cond, ◌&&◌, List, [], ◌∷◌, ◌++◌, length, take, drop, codes, nat_lt}
+use Rattle.std.specs.Prelude.{◌≡◌, ℕ, ◌-◌, ◌/◌, ◌%◌, min, Bool, false, not, cond, ◌&&◌, List, [], ◌∷◌, ◌++◌, length, take, drop, codes, nat_lt}
 use Rattle.std.specs.List.{flat_map}
 use Rattle.std.specs.Fmt.{decimal, digit_glyph}
 use Rattle.places.specs.declared.Location.{Location}
@@ -60,3 +60,22 @@ words_of_place text place = location_words place (location text place)
 abbrev pub refusal_of : List ℕ → ℕ → ℕ → List ℕ → List ℕ
 refusal_of text number place reason =
     codes "refused " ++ (decimal number ++ (codes " at " ++ (words_of_place text place ++ (codes ": " ++ (reason ++ (codes "\n" ++ excerpt_of text place))))))
+
+-- What the line shows before the place, and the blanks before the caret.
+abbrev pub shown_before : List ℕ → Location → Window → ℕ → List ℕ
+shown_before text line w place = cond (nat_lt line.start w.from) (codes "...") [] ++ flat_map shown_byte (part_of text w.from place)
+
+abbrev pub blanks_before : List ℕ → Location → Window → ℕ → List ℕ
+blanks_before text line w place = cond (nat_lt line.start w.from) (codes "   ") [] ++ flat_map blanks_for (part_of text w.from place)
+
+-- The caret stands under the place: behind as many blanks as the line shows bytes before the place.
+pub record CaretLaw (text : List ℕ) (line : Location) (w : Window) (place : ℕ) : Type 0 where
+  pub line_goes_on : shown_line text line w ≡ shown_before text line w place ++ (flat_map shown_byte (part_of text place w.to) ++ (cond (nat_lt w.to line.end) (codes "...") [] ++ codes "\n"))
+  pub caret_follows : caret_line text line w place ≡ blanks_before text line w place ++ codes "^\n"
+  pub as_wide : length (blanks_before text line w place) ≡ length (shown_before text line w place)
+
+abbrev pub CaretLawOfLine : List ℕ → ℕ → Location → Type 0
+CaretLawOfLine text place line = CaretLaw text line (window_of line.start line.end place) place
+
+abbrev pub CaretLawOf : List ℕ → ℕ → Type 0
+CaretLawOf text place = CaretLawOfLine text (min place (length text)) (location text (min place (length text)))

@@ -3,7 +3,7 @@
 ghost use Rattle.std.specs.Prelude.{◌≡◌, ◌≤◌, ◌++◌, [], cond, codes, drop, take, IfOk, OnOk};
 ghost use Rattle.std.specs.List.{flat_map};
 ghost use Rattle.std.specs.String.{string_bytes};
-ghost use Rattle.reports.specs.Excerpts.{blanks_for, byte_number, caret_line, excerpt_of, refusal_of, shown_byte, shown_line, words_of_place};
+ghost use Rattle.reports.specs.Excerpts.{blanks_for, byte_number, caret_line, CaretLawOf, excerpt_of, refusal_of, shown_byte, shown_line, words_of_place};
 ghost use Rattle.reports.specs.Windows.{window_of, WindowLaw};
 
 use places::{Location, locate};
@@ -133,7 +133,8 @@ fn push_caret(
 
 // The line of text of a place and the caret's line, indented.
 pub fn excerpt(heap: Global, text: &[u8], place: usize) -> Result<String, AllocError>
-    ensures { IfOk result (λ s. string_bytes s ≡ excerpt_of text.now place) }
+    ensures is { IfOk result (λ s. string_bytes s ≡ excerpt_of text.now place) }
+    ensures law { IfOk result (λ s. CaretLawOf text.now place) }
 {
     let place = place.min(text.len());
     let line = locate(text, place);
