@@ -1,5 +1,7 @@
 pub mod Reasons
 pub mod Windows
+pub mod Excerpts
 pub mod Names
 pub mod Cells
 pub mod Settings
+pub mod SettingWords

@@ -1,6 +1,9 @@
 // A place of a text for people: its line and column, the line of text, and a caret under the place.
 
-ghost use Rattle.std.specs.Prelude.{◌≡◌, ◌<◌, ◌≤◌};
+ghost use Rattle.std.specs.Prelude.{◌≡◌, ◌≤◌, ◌++◌, [], cond, codes, drop, take, IfOk, OnOk};
+ghost use Rattle.std.specs.List.{flat_map};
+ghost use Rattle.std.specs.String.{string_bytes};
+ghost use Rattle.reports.specs.Excerpts.{blanks_for, byte_number, caret_line, CaretLawOf, excerpt_of, refusal_of, shown_byte, shown_line, words_of_place};
 ghost use Rattle.reports.specs.Windows.{window_of, WindowLaw};
 
 use places::{Location, locate};
@@ -29,20 +32,70 @@ fn window_at(start: usize, end: usize, place: usize) -> Window
     Window { from, to }
 }
 
+// A byte by its number.
+fn number_of_byte(heap: Global, byte: u8) -> Result<String, AllocError>
+    ensures { IfOk result (λ s. string_bytes s ≡ byte_number byte) }
+{
+    format!(in heap; "\\x{byte:02x}")
+}
+
 // Printable ASCII as it stands, any other byte by its number.
-fn push_byte(heap: Global, out: &mut String, byte: u8) -> Result<(), AllocError> {
+fn push_byte(heap: Global, out: &mut String, byte: u8) -> Result<(), AllocError>
+    ensures { OnOk result (string_bytes out.new ≡ string_bytes out.old ++ shown_byte byte) }
+{
     match byte {
         b' '..=b'~' => out.push(char::from(byte)),
-        _ => out.push_str(format!(in heap; "\\x{byte:02x}")?.as_str()),
+        _ => {
+            let number = number_of_byte(heap, byte)?;
+            out.push_str(number.as_str())
+        }
     }
 }
 
 // As many blanks as `push_byte` writes characters.
-fn push_blanks(out: &mut String, byte: u8) -> Result<(), AllocError> {
+fn push_blanks(out: &mut String, byte: u8) -> Result<(), AllocError>
+    ensures { OnOk result (string_bytes out.new ≡ string_bytes out.old ++ blanks_for byte) }
+{
     match byte {
         b' '..=b'~' => out.push(' '),
         _ => out.push_str("    "),
     }
+}
+
+// As many bytes from a place on, or as many as there are.
+fn bytes_from(text: &[u8], from: usize, count: usize) -> &[u8]
+    ensures { result.now ≡ take count (drop from text.now) }
+{
+    let start = from.min(text.len());
+    let rest = text.len() - start;
+    &text[start..start + count.min(rest)]
+}
+
+// These words, where a line is cut off.
+fn push_where(out: &mut String, is_cut: bool, words: &str) -> Result<(), AllocError>
+    ensures { OnOk result (string_bytes out.new ≡ string_bytes out.old ++ cond is_cut words.now []) }
+{
+    if is_cut { out.push_str(words) } else { Ok(()) }
+}
+
+// Each byte as it is shown.
+fn push_bytes(heap: Global, out: &mut String, bytes: &[u8]) -> Result<(), AllocError>
+    ensures { OnOk result (string_bytes out.new ≡ string_bytes out.old ++ flat_map shown_byte bytes.now) }
+{
+    for b in bytes {
+        push_byte(heap, out, *b)?;
+    }
+    Ok(())
+}
+
+// Each byte's blanks.
+fn push_all_blanks(out: &mut String, bytes: &[u8]) -> Result<(), AllocError>
+    ensures { OnOk result (string_bytes out.new ≡ string_bytes out.old ++ flat_map blanks_for bytes.now) }
+{
+    for b in bytes {
+        push_blanks(out, *b)?;
+    }
+    Ok(())
 }
 
 // The line of a place, with `...` where it is cut off.
@@ -52,17 +105,13 @@ fn push_line(
     text: &[u8],
     line: Location,
     shown: Window,
-) -> Result<(), AllocError> {
-    if line.start < shown.from {
-        out.push_str("...")?;
-    }
+) -> Result<(), AllocError>
+    ensures { OnOk result (string_bytes out.new ≡ string_bytes out.old ++ shown_line text.now line shown) }
+{
+    push_where(out, line.start < shown.from, "...")?;
     let length = shown.to.saturating_sub(shown.from);
-    for b in text.iter().skip(shown.from).take(length) {
-        push_byte(heap, out, *b)?;
-    }
-    if shown.to < line.end {
-        out.push_str("...")?;
-    }
+    push_bytes(heap, out, bytes_from(text, shown.from, length))?;
+    push_where(out, shown.to < line.end, "...")?;
     out.push('\n')
 }
 
@@ -73,19 +122,20 @@ fn push_caret(
     line: Location,
     shown: Window,
     place: usize,
-) -> Result<(), AllocError> {
-    if line.start < shown.from {
-        out.push_str("   ")?;
-    }
+) -> Result<(), AllocError>
+    ensures { OnOk result (string_bytes out.new ≡ string_bytes out.old ++ caret_line text.now line shown place) }
+{
+    push_where(out, line.start < shown.from, "   ")?;
     let length = place.saturating_sub(shown.from);
-    for b in text.iter().skip(shown.from).take(length) {
-        push_blanks(out, *b)?;
-    }
+    push_all_blanks(out, bytes_from(text, shown.from, length))?;
     out.push_str("^\n")
 }
 
 // The line of text of a place and the caret's line, indented.
-pub fn excerpt(heap: Global, text: &[u8], place: usize) -> Result<String, AllocError> {
+pub fn excerpt(heap: Global, text: &[u8], place: usize) -> Result<String, AllocError>
+    ensures is { IfOk result (λ s. string_bytes s ≡ excerpt_of text.now place) }
+    ensures law { IfOk result (λ s. CaretLawOf text.now place) }
+{
     let place = place.min(text.len());
     let line = locate(text, place);
     let shown = window_at(line.start, line.end, place);
@@ -97,7 +147,9 @@ pub fn excerpt(heap: Global, text: &[u8], place: usize) -> Result<String, AllocE
 }
 
 // A place by its byte's number, its line and its column.
-pub fn place_words(heap: Global, text: &[u8], place: usize) -> Result<String, AllocError> {
+pub fn place_words(heap: Global, text: &[u8], place: usize) -> Result<String, AllocError>
+    ensures { IfOk result (λ s. string_bytes s ≡ words_of_place text.now place) }
+{
     let location = locate(text, place);
     let line = location.line;
     let column = location.column;
@@ -111,7 +163,9 @@ pub fn refusal(
     number: u8,
     place: usize,
     reason: &str,
-) -> Result<String, AllocError> {
+) -> Result<String, AllocError>
+    ensures { IfOk result (λ s. string_bytes s ≡ refusal_of text.now number place reason.now) }
+{
     let told = place_words(heap, text, place)?;
     let shown = excerpt(heap, text, place)?;
     format!(in heap; "refused {number} at {told}: {reason}\n{shown}")

@@ -1,8 +1,9 @@
 // Settings: a figure for a named cell, as a person writes it, `x=3` or `a[-2]=7`.
 
-ghost use Rattle.std.specs.Prelude.{◌≡◌};
+ghost use Rattle.std.specs.Prelude.{◌≡◌, Ok, Err, IfOk, MatchResult};
 ghost use Rattle.std.specs.Str.{bytes_eq};
 ghost use Rattle.reports.specs.Names.{name_letters};
+ghost use Rattle.reports.specs.SettingWords.{setting_cell, setting_figure, subscript_of, word_setting};
 ghost use Rattle.reports.specs.Settings.{line_setting, name_setting, setting_error};
 
 use crate::cells::bound_number;
@@ -99,7 +100,9 @@ pub fn cell_of_name(
 }
 
 // A subscript with the bracket that closes it.
-fn subscript_in(word: &str) -> Option<i64> {
+fn subscript_in(word: &str) -> Option<i64>
+    ensures { result ≡ subscript_of word.now }
+{
     word.strip_suffix(']')?.parse::<i64>().ok()
 }
 
@@ -109,7 +112,9 @@ pub fn cell_of_word(
     records: &[Record],
     lines: &[NameRecord],
     word: &str,
-) -> Result<usize, SettingError> {
+) -> Result<usize, SettingError>
+    ensures { result ≡ word_setting text.now records.now lines.now word.now }
+{
     match word.split_once('[') {
         None => cell_of_name(text, records, lines, word.as_bytes(), None),
         Some((name, rest)) => match subscript_in(rest) {
@@ -125,12 +130,15 @@ pub fn read_setting<'a>(
     records: &[Record],
     lines: &[NameRecord],
     word: &'a str,
-) -> Result<(usize, &'a str), SettingError> {
+) -> Result<(usize, &'a str), SettingError>
+    ensures cell { MatchResult result (λ x. setting_cell text.now records.now lines.now word.now ≡ Ok x.0) (λ e. setting_cell text.now records.now lines.now word.now ≡ Err e) }
+    ensures figure { IfOk result (λ x. x.1.now ≡ setting_figure word.now) }
+{
     match word.split_once('=') {
         None => Err(SettingError::NoFigure),
-        Some((target, figure)) => {
-            let cell = cell_of_word(text, records, lines, target)?;
-            Ok((cell, figure))
-        }
+        Some((target, figure)) => match cell_of_word(text, records, lines, target) {
+            Ok(cell) => Ok((cell, figure)),
+            Err(error) => Err(error),
+        },
     }
 }
