@@ -1,7 +1,8 @@
 // The names of a text.
 
-ghost use Rattle.std.specs.Prelude.{◌≡◌};
-ghost use Rattle.reports.specs.Names.{name_letters};
+ghost use Rattle.std.specs.Prelude.{◌≡◌, IfOk};
+ghost use Rattle.std.specs.String.{string_bytes};
+ghost use Rattle.reports.specs.Names.{name_letters, name_shown};
 
 use analysis::letters::letters;
 use parser::table::Record;
@@ -24,7 +25,9 @@ pub fn name_text(
     text: &[u8],
     records: &[Record],
     w: usize,
-) -> Result<String, AllocError> {
+) -> Result<String, AllocError>
+    ensures { IfOk result (λ s. string_bytes s ≡ name_shown text.now records.now w) }
+{
     let mut shown = String::new(heap);
     for b in letters_of(text, records, w) {
         shown.push(char::from(*b))?;
