@@ -1,9 +1,11 @@
 // The cells of names.
 
-ghost use Rattle.std.specs.Prelude.{◌≡◌};
+ghost use Rattle.std.specs.Prelude.{◌≡◌, IfOk};
+ghost use Rattle.std.specs.String.{string_bytes};
 ghost use Rattle.parser.specs.Records.{bound_in};
 ghost use Rattle.symbols.specs.Symbols.{bound_value, extent};
-ghost use Rattle.reports.specs.Cells.{line_cells, figures_in};
+ghost use Rattle.reports.specs.Cells.{line_cells, figures_in, cell_shown};
+ghost use Rattle.reports.specs.Names.{name_shown};
 
 use crate::names::name_text;
 use analysis::symbol::{NameKind, NameRecord};
@@ -74,7 +76,9 @@ pub fn cell_label(
     records: &[Record],
     line: NameRecord,
     subscript: i64,
-) -> Result<String, AllocError> {
+) -> Result<String, AllocError>
+    ensures { IfOk result (λ s. string_bytes s ≡ cell_shown (name_shown text.now records.now line.word) line.kind subscript) }
+{
     let name = name_text(heap, text, records, line.word)?;
     match line.kind {
         NameKind::Array(_, _) => format!(in heap; "{name}[{subscript}]"),
