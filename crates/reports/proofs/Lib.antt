@@ -2,3 +2,5 @@ pub mod Reasons
 pub mod WordLetters
 pub mod SettingSteps
 pub mod Parts
+pub mod Spelled
+pub mod OtherNodes

@@ -3,3 +3,4 @@ pub mod Windows
 pub mod Names
 pub mod Cells
 pub mod Settings
+pub mod Captions
