@@ -4,3 +4,4 @@ pub mod SettingSteps
 pub mod Parts
 pub mod Spelled
 pub mod OtherNodes
+pub mod OutlineSteps

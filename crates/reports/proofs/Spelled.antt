@@ -1,13 +1,11 @@
 -- Operators and relations are spelled as the words of a text that write them.
-use Rattle.std.proofs.Common.{◌≡◌, ℕ, List, rules, refl, inl, inr, subst, sym}
-use Rattle.words.specs.declared.token.Sign.{Sign}
+use Rattle.std.proofs.Common.{◌≡◌, ℕ, List, rules}
 use Rattle.words.specs.declared.token.Sign.TheVariants.{Plus, Minus}
 use Rattle.words.specs.declared.token.Scaling.TheVariants.{Times, Over}
 use Rattle.words.specs.declared.token.Relation.{Relation}
 use Rattle.words.specs.declared.token.Relation.TheVariants.{Less, AtMost, Equal, Unequal, AtLeast, More}
-use Rattle.words.specs.Token.{sign, relation}
-use Rattle.words.specs.Spelling.{marks, reserved_words}
-use Rattle.words.specs.Reading.{Entry, Spells, a_mark, a_reserved_word}
+use Rattle.words.specs.Token.{relation}
+use Rattle.words.specs.Reading.{Spells, a_mark, a_reserved_word}
 use Rattle.grammar.specs.declared.operator.Operator.{Operator}
 use Rattle.grammar.specs.declared.operator.Operator.TheVariants.{Equivalence, Disjunction, Conjunction, Additive, Multiplicative}
 use Rattle.grammar.specs.Classes.{operator_token}

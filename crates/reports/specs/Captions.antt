@@ -12,7 +12,7 @@ use Rattle.grammar.specs.declared.operator.Prefix.{Prefix}
 use Rattle.grammar.specs.declared.operator.Prefix.TheVariants.{Negation, Signed}
 use Rattle.parser.specs.declared.node.Node.{Node}
 use Rattle.parser.specs.declared.node.Bound.{Bound}
-use Rattle.parser.specs.declared.node.Node.TheVariants.{Empty, Literal, Simple, Subscripted, Prefixed, Joined, Bracketed, Compared, Progression, More, Labelled, Conditional, Repeated, Assigned, Go, Switched, Input, Printed, Stop, Comment, Integer, Boolean, Array, Group, Switch}
+use Rattle.parser.specs.declared.node.Node.TheVariants.{Literal, Simple, Subscripted, Prefixed, Joined, Bracketed, Compared, Progression, Labelled, Conditional, Repeated, Assigned, Go, Switched, Input, Printed, Stop, Comment, Integer, Boolean, Array, Group, Switch}
 use Rattle.parser.specs.declared.table.Record.{Record}
 use Rattle.reports.specs.Names.{name_shown}
 

@@ -4,3 +4,4 @@ pub mod Names
 pub mod Cells
 pub mod Settings
 pub mod Captions
+pub mod Outlines
