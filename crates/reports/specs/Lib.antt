@@ -5,3 +5,4 @@ pub mod Cells
 pub mod Settings
 pub mod Captions
 pub mod Outlines
+pub mod SymbolLines
