@@ -16,7 +16,7 @@ use parser::table::Record;
 use words::token::Sign;
 
 // The number that a bound is.
-pub(crate) fn value(b: Bound) -> i64
+pub fn value(b: Bound) -> i64
     ensures { result ≡ bound_value (bound_in b) }
 {
     match b.sign {

@@ -16,7 +16,7 @@ use parser::node::Bound;
 use parser::table::Record;
 
 // How many subscripts lie between two bounds.
-fn extent(low: Bound, high: Bound) -> usize
+pub fn extent(low: Bound, high: Bound) -> usize
     ensures count { result ≡ extent_of (bound_value (bound_in low)) (bound_value (bound_in high)) }
     ensures small { result ≤ 8589934592 }
 {
@@ -37,7 +37,7 @@ fn cells(kind: NameKind) -> usize
 }
 
 // The place, if n cells behind the first c take the number past 2,048.
-pub fn passing(c: usize, n: usize, place: usize) -> Option<usize>
+pub(crate) fn passing(c: usize, n: usize, place: usize) -> Option<usize>
     ensures { result ≡ earliest_of (told (nat_le c 2048 && nat_lt 2048 (c + n)) place) }
 {
     if c <= 2048 && n > 2048 - c {

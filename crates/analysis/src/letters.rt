@@ -20,7 +20,7 @@ pub fn letters<'a>(text: &'a [u8], w: Word) -> &'a [u8]
 }
 
 // The letters of the word of this number.
-pub(crate) fn letters_of<'a>(text: &'a [u8], records: &[Record], w: usize) -> &'a [u8]
+pub fn letters_of<'a>(text: &'a [u8], records: &[Record], w: usize) -> &'a [u8]
     ensures { result.now ≡ word_letters text.now records.now w }
 {
     if w < records.len() {

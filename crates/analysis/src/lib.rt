@@ -4,7 +4,7 @@
 
 pub mod bounds;
 mod cell_count;
-mod cells;
+pub mod cells;
 mod declaration;
 mod declare;
 mod earliest;

@@ -4,3 +4,6 @@ pub mod SettingSteps
 pub mod SettingNumbers
 pub mod Carets
 pub mod Parts
+pub mod Spelled
+pub mod OtherNodes
+pub mod OutlineSteps

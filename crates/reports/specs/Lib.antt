@@ -5,3 +5,6 @@ pub mod Names
 pub mod Cells
 pub mod Settings
 pub mod SettingWords
+pub mod Captions
+pub mod Outlines
+pub mod SymbolLines

@@ -1,5 +1,7 @@
 -- The letters of the name that a word of a text is.
 use Rattle.std.specs.Prelude.{ℕ, List, [], ◌∷◌, slice_index_or}
+use Rattle.std.specs.Char.{encode_utf8}
+use Rattle.std.specs.List.{flat_map}
 use Rattle.parser.specs.declared.table.Record.{Record}
 use Rattle.analysis.specs.Letters.{letters_in}
 
@@ -10,3 +12,10 @@ word_letters text (r ∷ rs) = letters_in text r.word ∷ word_letters text rs
 -- A word past the table has none.
 abbrev pub name_letters : List ℕ → List Record → ℕ → List ℕ
 name_letters text rs w = slice_index_or (word_letters text rs) w []
+
+-- They as text: each byte is the character of its code. Of a name's letters, which are ASCII, the text has just these bytes.
+abbrev pub letters_shown : List ℕ → List ℕ
+letters_shown x = flat_map encode_utf8 x
+
+abbrev pub name_shown : List ℕ → List Record → ℕ → List ℕ
+name_shown text rs w = letters_shown (name_letters text rs w)

@@ -1,5 +1,13 @@
 // What a node is, in a few words.
 
+ghost use Rattle.std.specs.Prelude.{◌≡◌, ◌++◌, IfOk};
+ghost use Rattle.std.specs.String.{string_bytes};
+ghost use Rattle.words.specs.Reading.{Spells};
+ghost use Rattle.words.specs.Token.{relation, sign};
+ghost use Rattle.grammar.specs.Classes.{operator_token};
+ghost use Rattle.reports.specs.Names.{name_shown};
+ghost use Rattle.reports.specs.Captions.{sign_shown, operator_shown, relation_shown, prefix_shown, bounds_shown, expression_shown, declaration_shown, node_shown};
+
 use crate::names::name_text;
 use grammar::operator::{Operator, Prefix};
 use parser::node::{Bound, Node};
@@ -7,14 +15,20 @@ use parser::table::Record;
 use std::alloc::{AllocError, Global};
 use words::token::{Relation, Scaling, Sign};
 
-fn sign_text(s: Sign) -> &'static str {
+fn sign_text(s: Sign) -> &'static str
+    ensures { result.now ≡ sign_shown s }
+{
     match s {
         Sign::Plus => "+",
         Sign::Minus => "-",
     }
 }
 
-fn operator_text(o: Operator) -> &'static str {
+#[tactic(auto, using(crate::proofs::Spelled::operator_spells))]
+fn operator_text(o: Operator) -> &'static str
+    ensures words { result.now ≡ operator_shown o }
+    ensures spelled { Spells result.now (operator_token o) }
+{
     match o {
         Operator::Equivalence => "eqv",
         Operator::Disjunction => "or",
@@ -25,7 +39,9 @@ fn operator_text(o: Operator) -> &'static str {
     }
 }
 
-fn prefix_text(o: Prefix) -> &'static str {
+fn prefix_text(o: Prefix) -> &'static str
+    ensures { result.now ≡ prefix_shown o }
+{
     match o {
         Prefix::Negation => "not",
         Prefix::Signed(Sign::Plus) => "plus",
@@ -33,7 +49,11 @@ fn prefix_text(o: Prefix) -> &'static str {
     }
 }
 
-fn relation_text(r: Relation) -> &'static str {
+#[tactic(auto, using(crate::proofs::Spelled::relation_spells))]
+fn relation_text(r: Relation) -> &'static str
+    ensures words { result.now ≡ relation_shown r }
+    ensures spelled { Spells result.now (relation r) }
+{
     match r {
         Relation::Less => "<",
         Relation::AtMost => "<=",
@@ -45,7 +65,9 @@ fn relation_text(r: Relation) -> &'static str {
 }
 
 // Some words alone.
-fn plain(heap: Global, words: &str) -> Result<String, AllocError> {
+fn plain(heap: Global, words: &str) -> Result<String, AllocError>
+    ensures { IfOk result (λ s. string_bytes s ≡ words.now) }
+{
     String::from_str(heap, words)
 }
 
@@ -56,14 +78,18 @@ fn named(
     text: &[u8],
     records: &[Record],
     w: usize,
-) -> Result<String, AllocError> {
+) -> Result<String, AllocError>
+    ensures { IfOk result (λ s. string_bytes s ≡ words.now ++ name_shown text.now records.now w) }
+{
     let mut shown = String::from_str(heap, words)?;
     let name = name_text(heap, text, records, w)?;
     shown.push_str(name.as_str())?;
     Ok(shown)
 }
 
-fn bounds_text(heap: Global, low: Bound, high: Bound) -> Result<String, AllocError> {
+fn bounds_text(heap: Global, low: Bound, high: Bound) -> Result<String, AllocError>
+    ensures { IfOk result (λ s. string_bytes s ≡ bounds_shown low high) }
+{
     let from = sign_text(low.sign);
     let to = sign_text(high.sign);
     let least = low.size;
@@ -77,7 +103,9 @@ fn expression_caption(
     text: &[u8],
     records: &[Record],
     node: Node,
-) -> Result<String, AllocError> {
+) -> Result<String, AllocError>
+    ensures { IfOk result (λ s. string_bytes s ≡ expression_shown text.now records.now node) }
+{
     match node {
         Node::Literal(n, _) => format!(in heap; "number {n}"),
         Node::Simple(w) => named(heap, "name ", text, records, w),
@@ -97,7 +125,9 @@ fn declaration_caption(
     text: &[u8],
     records: &[Record],
     node: Node,
-) -> Result<String, AllocError> {
+) -> Result<String, AllocError>
+    ensures { IfOk result (λ s. string_bytes s ≡ declaration_shown text.now records.now node) }
+{
     match node {
         Node::Comment => plain(heap, "comment"),
         Node::Integer(_) => plain(heap, "integer"),
@@ -115,7 +145,9 @@ pub fn caption(
     text: &[u8],
     records: &[Record],
     node: Node,
-) -> Result<String, AllocError> {
+) -> Result<String, AllocError>
+    ensures { IfOk result (λ s. string_bytes s ≡ node_shown text.now records.now node) }
+{
     match node {
         Node::Labelled(w, _) => named(heap, "label ", text, records, w),
         Node::Conditional(_, _, _) => plain(heap, "if"),

@@ -1,16 +1,19 @@
 // The cells of names.
 
-ghost use Rattle.std.specs.Prelude.{◌≡◌};
+ghost use Rattle.std.specs.Prelude.{◌≡◌, IfOk};
+ghost use Rattle.std.specs.String.{string_bytes};
 ghost use Rattle.parser.specs.Records.{bound_in};
 ghost use Rattle.symbols.specs.Symbols.{bound_value, extent};
-ghost use Rattle.reports.specs.Cells.{line_cells, figures_in};
+ghost use Rattle.reports.specs.Cells.{line_cells, figures_in, cell_shown};
+ghost use Rattle.reports.specs.Names.{name_shown};
 
 use crate::names::name_text;
+use analysis::bounds::value;
+use analysis::cells::extent;
 use analysis::symbol::{NameKind, NameRecord};
 use parser::node::Bound;
 use parser::table::Record;
 use std::alloc::{AllocError, Global};
-use words::token::Sign;
 
 // The number of a name's first cell, how many cells it has, and the subscript of the first.
 #[derive(Clone, Copy)]
@@ -24,18 +27,14 @@ pub struct Cells {
 pub fn bound_number(b: Bound) -> i64
     ensures { result ≡ bound_value (bound_in b) }
 {
-    match b.sign {
-        Sign::Plus => b.size as i64,
-        Sign::Minus => -(b.size as i64),
-    }
+    value(b)
 }
 
 // How many subscripts lie within two bounds.
 fn extent_of(low: Bound, high: Bound) -> usize
     ensures { result ≡ extent (bound_value (bound_in low)) (bound_value (bound_in high)) }
 {
-    let n = bound_number(high) - bound_number(low) + 1;
-    if n > 0 { n as usize } else { 0 }
+    extent(low, high)
 }
 
 // The cells of a line of the symbol table; a label or a switch has none.
@@ -74,7 +73,9 @@ pub fn cell_label(
     records: &[Record],
     line: NameRecord,
     subscript: i64,
-) -> Result<String, AllocError> {
+) -> Result<String, AllocError>
+    ensures { IfOk result (λ s. string_bytes s ≡ cell_shown (name_shown text.now records.now line.word) line.kind subscript) }
+{
     let name = name_text(heap, text, records, line.word)?;
     match line.kind {
         NameKind::Array(_, _) => format!(in heap; "{name}[{subscript}]"),

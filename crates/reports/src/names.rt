@@ -1,9 +1,10 @@
 // The names of a text.
 
-ghost use Rattle.std.specs.Prelude.{◌≡◌};
-ghost use Rattle.reports.specs.Names.{name_letters};
+ghost use Rattle.std.specs.Prelude.{◌≡◌, IfOk};
+ghost use Rattle.std.specs.String.{string_bytes};
+ghost use Rattle.reports.specs.Names.{name_letters, name_shown};
 
-use analysis::letters::letters;
+use analysis::letters::letters_of as letters_of_word;
 use parser::table::Record;
 use std::alloc::{AllocError, Global};
 
@@ -11,11 +12,7 @@ use std::alloc::{AllocError, Global};
 pub fn letters_of<'a>(text: &'a [u8], records: &[Record], w: usize) -> &'a [u8]
     ensures { result.now ≡ name_letters text.now records.now w }
 {
-    if w < records.len() {
-        letters(text, records[w].word)
-    } else {
-        &text[0..0]
-    }
+    letters_of_word(text, records, w)
 }
 
 // The same as text.
@@ -24,7 +21,9 @@ pub fn name_text(
     text: &[u8],
     records: &[Record],
     w: usize,
-) -> Result<String, AllocError> {
+) -> Result<String, AllocError>
+    ensures { IfOk result (λ s. string_bytes s ≡ name_shown text.now records.now w) }
+{
     let mut shown = String::new(heap);
     for b in letters_of(text, records, w) {
         shown.push(char::from(*b))?;

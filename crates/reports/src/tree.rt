@@ -1,5 +1,10 @@
 // The lines of a tree.
 
+ghost use Rattle.std.specs.Prelude.{◌≡◌, ◌++◌, length, IfOk};
+ghost use Rattle.std.specs.List.{filter_map};
+ghost use Rattle.std.specs.String.{string_bytes};
+ghost use Rattle.reports.specs.Outlines.{parts_of, outline_line, outline_of};
+
 use crate::caption::caption;
 use analysis::tree::node_of;
 use parser::node::Node;
@@ -7,7 +12,10 @@ use parser::table::Record;
 use std::alloc::{AllocError, Global};
 
 // The parts of a node, in the order of the text.
-fn parts(node: Node) -> [Option<usize>; 3] {
+fn parts(node: Node) -> [Option<usize>; 3]
+    ensures places { length result ≡ 3 }
+    ensures parts { filter_map (λ o. o) result ≡ parts_of node }
+{
     match node {
         Node::Subscripted(_, a)
         | Node::Prefixed(_, _, a)
@@ -32,8 +40,11 @@ fn parts(node: Node) -> [Option<usize>; 3] {
     }
 }
 
-fn push_line(out: &mut String, depth: usize, words: &str) -> Result<(), AllocError> {
-    for _ in 0..depth {
+// Adds a line, indented by depth.
+fn push_line(out: &mut String, depth: usize, words: &str) -> Result<(), AllocError>
+    ensures { IfOk result (λ u. string_bytes out.new ≡ string_bytes out.old ++ outline_line depth words.now) }
+{
+    for _level in 0..depth {
         out.push_str("  ")?;
     }
     out.push_str(words)?;
@@ -48,7 +59,9 @@ pub fn outline(
     records: &[Record],
     i: usize,
     depth: usize,
-) -> Result<(), AllocError> {
+) -> Result<(), AllocError>
+    ensures { IfOk result (λ u. string_bytes out.new ≡ string_bytes out.old ++ outline_of text.now records.now depth i) }
+{
     let node = node_of(records, i);
     let mut below = depth;
     if !matches!(node, Node::More(_, _)) {
