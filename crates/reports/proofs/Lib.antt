@@ -5,3 +5,4 @@ pub mod Parts
 pub mod Spelled
 pub mod OtherNodes
 pub mod OutlineSteps
+pub mod AsciiLetters
