@@ -14,11 +14,13 @@ abbrev pub of_some : (ℕ → List ℕ) → Option ℕ → List ℕ
 of_some f None = []
 of_some f (Some p) = f p
 
+-- The same of those that are there.
 pub of_somes : (f : ℕ → List ℕ) (os : List (Option ℕ)) → flat_map (of_some f) os ≡ flat_map f (filter_map (λ o. o) os)
 of_somes f [] = refl
 of_somes f (None ∷ os) = of_somes f os
 of_somes f (Some p ∷ os) = ap (λ (t : List ℕ). f p ++ t) (of_somes f os)
 
+-- Functions that agree give the same of a list.
 flat_map_same : (f g : ℕ → List ℕ) → ((p : ℕ) → f p ≡ g p) → (ps : List ℕ) → flat_map f ps ≡ flat_map g ps
 flat_map_same f g h [] = refl
 flat_map_same f g h (p ∷ ps) = ap₂ (λ (s t : List ℕ). s ++ t) (h p) (flat_map_same f g h ps)

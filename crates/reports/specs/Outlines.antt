@@ -39,6 +39,7 @@ abbrev pub own_line : List ℕ → List Record → ℕ → Node → List ℕ
 own_line text rs d (More a b) = []
 own_line text rs d n = outline_line d (node_shown text rs n)
 
+-- The depth of the lines of its parts, which stays a number of 64 bits.
 abbrev pub depth_below : ℕ → Node → ℕ
 depth_below d (More a b) = d
 depth_below d n = min (d + 1) (2 ^ 64 - 1)
