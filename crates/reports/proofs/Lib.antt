@@ -7,3 +7,4 @@ pub mod Parts
 pub mod Spelled
 pub mod OtherNodes
 pub mod OutlineSteps
+pub mod AsciiLetters

@@ -7,25 +7,23 @@ use Rattle.parser.specs.declared.node.Node.TheVariants.{More}
 use Rattle.parser.specs.declared.table.Record.{Record}
 use Rattle.analysis.specs.Views.{node_of}
 use Rattle.reports.specs.Captions.{node_shown}
-use Rattle.reports.specs.Outlines.{parts_of, outline_line, own_line, depth_below, outline_before, outline_of}
+use Rattle.reports.specs.Outlines.{parts_of, outline_line, own_line, depth_below, outline_before, outline_of, part_outline, OutlineLaw}
 
 -- What f gives of what is there.
 abbrev pub of_some : (ℕ → List ℕ) → Option ℕ → List ℕ
 of_some f None = []
 of_some f (Some p) = f p
 
+-- The same of those that are there.
 pub of_somes : (f : ℕ → List ℕ) (os : List (Option ℕ)) → flat_map (of_some f) os ≡ flat_map f (filter_map (λ o. o) os)
 of_somes f [] = refl
 of_somes f (None ∷ os) = of_somes f os
 of_somes f (Some p ∷ os) = ap (λ (t : List ℕ). f p ++ t) (of_somes f os)
 
+-- Functions that agree give the same of a list.
 flat_map_same : (f g : ℕ → List ℕ) → ((p : ℕ) → f p ≡ g p) → (ps : List ℕ) → flat_map f ps ≡ flat_map g ps
 flat_map_same f g h [] = refl
 flat_map_same f g h (p ∷ ps) = ap₂ (λ (s t : List ℕ). s ++ t) (h p) (flat_map_same f g h ps)
-
--- What the outline of a part adds to that of node i.
-abbrev pub part_outline : List ℕ → List Record → ℕ → ℕ → ℕ → List ℕ
-part_outline text rs d i p = cond (nat_lt p i) (outline_of text rs d p) []
 
 -- Below the limit i all parts that count have the same outline by two functions, if each part before i has.
 same_parts : (f g : ℕ → List ℕ) (i : ℕ) → ((p : ℕ) → p < i → f p ≡ g p) → (ps : List ℕ)
@@ -47,7 +45,7 @@ module _ (text : List ℕ) (rs : List Record) where
       (same_parts (outline_before k text rs (depth_below d n)) (outline_before m text rs (depth_below d n)) i
       (λ p l. any_limit k m (depth_below d n) p (omega arith) (omega arith)) (parts_of n))
 
-  outline_step : (d i : ℕ) → outline_of text rs d i ≡ own_line text rs d (node_of rs i) ++ flat_map (part_outline text rs (depth_below d (node_of rs i)) i) (parts_of (node_of rs i))
+  pub outline_step : OutlineLaw text rs
   outline_step d i =
       let n = node_of rs i in
       ap (λ (t : List ℕ). own_line text rs d n ++ t)

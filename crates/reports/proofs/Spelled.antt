@@ -11,6 +11,7 @@ use Rattle.grammar.specs.declared.operator.Operator.TheVariants.{Equivalence, Di
 use Rattle.grammar.specs.Classes.{operator_token}
 use Rattle.reports.specs.Captions.{operator_shown, relation_shown}
 
+-- Each relation.
 relation_spelled : (r : Relation) → Spells (relation_shown r) (relation r)
 relation_spelled Less = a_mark (search rules)
 relation_spelled AtMost = a_mark (search rules)
@@ -19,6 +20,7 @@ relation_spelled Unequal = a_mark (search rules)
 relation_spelled AtLeast = a_mark (search rules)
 relation_spelled More = a_mark (search rules)
 
+-- Each operator.
 operator_spelled : (o : Operator) → Spells (operator_shown o) (operator_token o)
 operator_spelled Equivalence = a_reserved_word (search rules)
 operator_spelled Disjunction = a_reserved_word (search rules)

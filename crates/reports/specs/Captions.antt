@@ -16,6 +16,7 @@ use Rattle.parser.specs.declared.node.Node.TheVariants.{Literal, Simple, Subscri
 use Rattle.parser.specs.declared.table.Record.{Record}
 use Rattle.reports.specs.Names.{name_shown}
 
+-- A sign, as in a text.
 abbrev pub sign_shown : Sign → List ℕ
 sign_shown Plus = codes "+"
 sign_shown Minus = codes "-"
@@ -29,6 +30,7 @@ operator_shown (Additive s) = sign_shown s
 operator_shown (Multiplicative Times) = codes "*"
 operator_shown (Multiplicative Over) = codes "/"
 
+-- The sign of a comparison.
 abbrev pub relation_shown : RelationSign → List ℕ
 relation_shown Less = codes "<"
 relation_shown AtMost = codes "<="
@@ -43,9 +45,11 @@ prefix_shown Negation = codes "not"
 prefix_shown (Signed Plus) = codes "plus"
 prefix_shown (Signed Minus) = codes "minus"
 
+-- A bound with its sign, also a plus.
 abbrev pub bound_shown : Bound → List ℕ
 bound_shown b = sign_shown b.sign ++ decimal b.size
 
+-- The bounds of a group of arrays, the low one first.
 abbrev pub bounds_shown : Bound → Bound → List ℕ
 bounds_shown l h = codes "bounds " ++ (bound_shown l ++ (codes " : " ++ bound_shown h))
 

@@ -17,5 +17,6 @@ name_letters text rs w = slice_index_or (word_letters text rs) w []
 abbrev pub letters_shown : List ℕ → List ℕ
 letters_shown x = flat_map encode_utf8 x
 
+-- The text of the name that a word is.
 abbrev pub name_shown : List ℕ → List Record → ℕ → List ℕ
 name_shown text rs w = letters_shown (name_letters text rs w)

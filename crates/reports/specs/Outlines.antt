@@ -1,5 +1,5 @@
 -- The outline of a tree, as a report shows it: a line for each node, and below it the lines of its parts, further in.
-use Rattle.std.specs.Prelude.{ℕ, zero, suc, ◌+◌, ◌-◌, ◌*◌, ◌^◌, min, cond, List, [], ◌∷◌, ◌++◌, replicate, codes, nat_lt}
+use Rattle.std.specs.Prelude.{◌≡◌, ℕ, zero, suc, ◌+◌, ◌-◌, ◌*◌, ◌^◌, min, cond, List, [], ◌∷◌, ◌++◌, replicate, codes, nat_lt}
 use Rattle.std.specs.List.{flat_map}
 use Rattle.parser.specs.declared.node.Node.{Node}
 use Rattle.parser.specs.declared.node.Node.TheVariants.{Subscripted, Prefixed, Joined, Bracketed, Compared, Progression, More, Labelled, Conditional, Repeated, Assigned, Switched, Input, Printed, Integer, Boolean, Array, Group, Switch}
@@ -39,6 +39,7 @@ abbrev pub own_line : List ℕ → List Record → ℕ → Node → List ℕ
 own_line text rs d (More a b) = []
 own_line text rs d n = outline_line d (node_shown text rs n)
 
+-- The depth of the lines of its parts, which stays a number of 64 bits.
 abbrev pub depth_below : ℕ → Node → ℕ
 depth_below d (More a b) = d
 depth_below d n = min (d + 1) (2 ^ 64 - 1)
@@ -53,3 +54,11 @@ outline_before (suc k) text rs d i =
 -- The lines of the tree at node i, whose own line stands at depth d.
 abbrev pub outline_of : List ℕ → List Record → ℕ → ℕ → List ℕ
 outline_of text rs d i = outline_before (suc i) text rs d i
+
+-- What a part p adds to the lines of node i.
+abbrev pub part_outline : List ℕ → List Record → ℕ → ℕ → ℕ → List ℕ
+part_outline text rs d i p = cond (nat_lt p i) (outline_of text rs d p) []
+
+-- The law, with no limit: the lines of a node are its own and those of its parts.
+abbrev pub OutlineLaw : List ℕ → List Record → Type 0
+OutlineLaw text rs = (d i : ℕ) → outline_of text rs d i ≡ own_line text rs d (node_of rs i) ++ flat_map (part_outline text rs (depth_below d (node_of rs i)) i) (parts_of (node_of rs i))

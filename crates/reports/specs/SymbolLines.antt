@@ -12,30 +12,36 @@ use Rattle.reports.specs.declared.cells.Cells.{Cells}
 use Rattle.reports.specs.Cells.{line_cells}
 use Rattle.reports.specs.Names.{name_shown}
 
+-- What a name is, in a word.
 abbrev pub kind_shown : NameKind → List ℕ
 kind_shown Label = codes "label"
 kind_shown (Switch i) = codes "switch"
 kind_shown (Array l h) = codes "array"
 kind_shown Variable = codes "variable"
 
+-- Its type, in a word.
 abbrev pub type_shown : ValueType → List ℕ
 type_shown Untyped = codes "none"
 type_shown Integer = codes "integer"
 type_shown Boolean = codes "boolean"
 
--- Blanks fill a column of this width behind a text, or before it; a longer text is not cut.
+-- A text at the left of a column of this width, which blanks fill; a longer text is not cut.
 abbrev pub left_column : ℕ → List ℕ → List ℕ
 left_column width text = styled_text (format_spec 32 1 0 width (2 ^ 64 - 1)) text
 
+-- The text stands at the right.
 abbrev pub right_column : ℕ → List ℕ → List ℕ
 right_column width text = styled_text (format_spec 32 3 0 width (2 ^ 64 - 1)) text
 
+-- So do numbers.
 abbrev pub number_column : ℕ → ℕ → List ℕ
 number_column width n = styled_decimal (format_spec 32 3 0 width (2 ^ 64 - 1)) n
 
+-- So do numbers with a sign.
 abbrev pub signed_column : ℕ → ℤ → List ℕ
 signed_column width n = styled_signed_decimal (format_spec 32 3 0 width (2 ^ 64 - 1)) n
 
+-- What parts two columns.
 abbrev pub gap : List ℕ
 gap = codes "  "
 
@@ -44,11 +50,13 @@ abbrev pub cells_shown : Option Cells → List ℕ
 cells_shown None = right_column 5 (codes "-") ++ (gap ++ (signed_column 5 (pos 0) ++ (gap ++ right_column 5 (codes "-"))))
 cells_shown (Some c) = number_column 5 c.first ++ (gap ++ (number_column 5 c.count ++ (gap ++ signed_column 5 c.low)))
 
+-- A line: name, kind, type, first cell, count of cells, low bound.
 abbrev pub symbol_shown : List ℕ → List Record → NameRecord → List ℕ
 symbol_shown text rs r =
     left_column 16 (name_shown text rs r.word)
     ++ (gap ++ (left_column 8 (kind_shown r.kind) ++ (gap ++ (left_column 7 (type_shown r.value_type) ++ (gap ++ (cells_shown (line_cells r) ++ codes "\n"))))))
 
+-- The line above them all.
 abbrev pub column_heads : List ℕ
 column_heads =
     left_column 16 (codes "name") ++ (gap ++ (left_column 8 (codes "kind") ++ (gap ++ (left_column 7 (codes "type")

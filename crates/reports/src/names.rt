@@ -1,6 +1,7 @@
 // The names of a text.
 
 ghost use Rattle.std.specs.Prelude.{◌≡◌, IfOk};
+ghost use Rattle.std.specs.Str.{IsAscii};
 ghost use Rattle.std.specs.String.{string_bytes};
 ghost use Rattle.reports.specs.Names.{name_letters, name_shown};
 
@@ -22,7 +23,8 @@ pub fn name_text(
     records: &[Record],
     w: usize,
 ) -> Result<String, AllocError>
-    ensures { IfOk result (λ s. string_bytes s ≡ name_shown text.now records.now w) }
+    ensures text { IfOk result (λ s. string_bytes s ≡ name_shown text.now records.now w) }
+    ensures letters { IsAscii (name_letters text.now records.now w) → IfOk result (λ s. string_bytes s ≡ name_letters text.now records.now w) }
 {
     let mut shown = String::new(heap);
     for b in letters_of(text, records, w) {

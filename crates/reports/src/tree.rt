@@ -3,7 +3,7 @@
 ghost use Rattle.std.specs.Prelude.{◌≡◌, ◌++◌, length, IfOk};
 ghost use Rattle.std.specs.List.{filter_map};
 ghost use Rattle.std.specs.String.{string_bytes};
-ghost use Rattle.reports.specs.Outlines.{parts_of, outline_line, outline_of};
+ghost use Rattle.reports.specs.Outlines.{parts_of, outline_line, outline_of, OutlineLaw};
 
 use crate::caption::caption;
 use analysis::tree::node_of;
@@ -52,6 +52,7 @@ fn push_line(out: &mut String, depth: usize, words: &str) -> Result<(), AllocErr
 }
 
 // The lines of the tree at node i, indented by depth. The parts of a row stand side by side.
+#[tactic(auto, using(crate::proofs::OutlineSteps::outline_step))]
 pub fn outline(
     heap: Global,
     out: &mut String,
@@ -60,7 +61,8 @@ pub fn outline(
     i: usize,
     depth: usize,
 ) -> Result<(), AllocError>
-    ensures { IfOk result (λ u. string_bytes out.new ≡ string_bytes out.old ++ outline_of text.now records.now depth i) }
+    ensures law { OutlineLaw text.now records.now }
+    ensures lines { IfOk result (λ u. string_bytes out.new ≡ string_bytes out.old ++ outline_of text.now records.now depth i) }
 {
     let node = node_of(records, i);
     let mut below = depth;

@@ -3,13 +3,13 @@ use Rattle.std.specs.String.{string_bytes}
 use Rattle.std.proofs.lemmas.List.{take_all, append-nil}
 use Rattle.std.specs.List.{flat_map}
 use Rattle.reports.specs.Captions.{node_shown}
-use Rattle.reports.specs.Outlines.{own_line, depth_below, outline_line}
-use Rattle.reports.proofs.OutlineSteps.{of_some, part_outline, outlined, row_is_silent, others_tell}
+use Rattle.reports.specs.Outlines.{part_outline, own_line, depth_below, outline_line}
+use Rattle.reports.proofs.OutlineSteps.{of_some, outlined, row_is_silent, others_tell}
 use Rattle.reports.proofs.tree.+outline.Goals as goal
 use Rattle.reports.proofs.tree.+outline.Goals.{in-More, in_default, then-not-matches+in_ok-words+in_ok-push_line, else-not-matches}
 
-pub returns : goal.returns
-returns t c =
+pub returns-clause-lines : goal.returns-clause-lines
+returns-clause-lines t c =
     let text = c.args.text.now in
     let rs = c.args.records.now in
     let n = c.node_of-node.result in

@@ -1,7 +1,8 @@
 use Rattle.std.proofs.Common.{◌≡◌, ◌++◌, take}
 use Rattle.std.specs.List.{flat_map}
 use Rattle.std.specs.String.{string_bytes}
-use Rattle.reports.proofs.OutlineSteps.{of_some, part_outline}
+use Rattle.reports.specs.Outlines.{part_outline}
+use Rattle.reports.proofs.OutlineSteps.{of_some}
 use Rattle.reports.proofs.tree.+outline.Given as goal
 
 abbrev pub decreases-outline : goal.decreases-outline
