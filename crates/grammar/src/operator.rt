@@ -3,7 +3,7 @@
 use words::token::{Scaling, Sign};
 
 // An operator between two operands: `eqv`, `or`, `and`, a sign, `*` or `/`.
-#[derive(Clone, Copy)]
+#[derive(Clone, Copy, PartialEq, Eq, Debug)]
 pub enum Operator {
     Equivalence,
     Disjunction,
@@ -13,7 +13,7 @@ pub enum Operator {
 }
 
 // An operator before its operand: `not`, or a sign.
-#[derive(Clone, Copy)]
+#[derive(Clone, Copy, PartialEq, Eq, Debug)]
 pub enum Prefix {
     Negation,
     Signed(Sign),

@@ -5,13 +5,13 @@ use grammar::operator::{Operator, Prefix};
 use words::token::{Relation, Sign};
 
 // A bound of an array's subscripts.
-#[derive(Clone, Copy)]
+#[derive(Clone, Copy, PartialEq, Eq, Debug)]
 pub struct Bound {
     pub sign: Sign,
     pub size: u32,
 }
 
-#[derive(Clone, Copy)]
+#[derive(Clone, Copy, PartialEq, Eq, Debug)]
 pub enum Node {
     Empty,
     // A number: its value and its place.

@@ -6,14 +6,14 @@ ghost use Rattle.parser.specs.Refusal.{number, place};
 use grammar::refusal::SentenceRefusal;
 
 // The words of a text are refused as a sentence.
-#[derive(Clone, Copy)]
+#[derive(Clone, Copy, PartialEq, Eq, Debug)]
 pub struct Refusal {
     pub reason: SentenceRefusal,
     pub place: usize,
 }
 
 // A text is refused for a word, or as a sentence.
-#[derive(Clone, Copy)]
+#[derive(Clone, Copy, PartialEq, Eq, Debug)]
 pub enum ParseRefusal {
     Word(words::refusal::Refusal),
     Sentence(Refusal),

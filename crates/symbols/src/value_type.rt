@@ -1,6 +1,6 @@
 // The type that a name is declared to have.
 
-#[derive(Clone, Copy)]
+#[derive(Clone, Copy, PartialEq, Eq, Debug)]
 pub enum ValueType {
     // In no type's list.
     Untyped,

@@ -3,7 +3,7 @@
 ghost use Rattle.std.specs.Prelude.{◌≡◌};
 ghost use Rattle.words.specs.Refusal.{number};
 
-#[derive(Clone, Copy)]
+#[derive(Clone, Copy, PartialEq, Eq, Debug)]
 pub enum WordRefusal {
     // The text is longer than 8,192 bytes.
     TextTooLong,
@@ -30,7 +30,7 @@ impl WordRefusal {
 }
 
 // A refusal, and the byte it is told at.
-#[derive(Clone, Copy)]
+#[derive(Clone, Copy, PartialEq, Eq, Debug)]
 pub struct Refusal {
     pub reason: WordRefusal,
     pub place: usize,

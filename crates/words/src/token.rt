@@ -1,21 +1,21 @@
 // The kinds of words, grouped as the grammar uses them.
 
 // `+` and `-`, before a term or between two.
-#[derive(Clone, Copy)]
+#[derive(Clone, Copy, PartialEq, Eq, Debug)]
 pub enum Sign {
     Plus,
     Minus,
 }
 
 // `*` and `/`, between two factors.
-#[derive(Clone, Copy)]
+#[derive(Clone, Copy, PartialEq, Eq, Debug)]
 pub enum Scaling {
     Times,
     Over,
 }
 
 // `<`, `<=`, `=`, `/=`, `>=` and `>`.
-#[derive(Clone, Copy)]
+#[derive(Clone, Copy, PartialEq, Eq, Debug)]
 pub enum Relation {
     Less,
     AtMost,
@@ -26,7 +26,7 @@ pub enum Relation {
 }
 
 // The other marks: `;`, `:`, `:=`, `=:`, `,`, and the two kinds of brackets.
-#[derive(Clone, Copy)]
+#[derive(Clone, Copy, PartialEq, Eq, Debug)]
 pub enum Mark {
     Semicolon,
     Colon,
@@ -40,7 +40,7 @@ pub enum Mark {
 }
 
 // The reserved words, each written as its name in small letters.
-#[derive(Clone, Copy)]
+#[derive(Clone, Copy, PartialEq, Eq, Debug)]
 pub enum Keyword {
     Begin,
     End,
@@ -63,7 +63,7 @@ pub enum Keyword {
 }
 
 // What a word is. A name's bytes stay in the text: the record has how many there are.
-#[derive(Clone, Copy)]
+#[derive(Clone, Copy, PartialEq, Eq, Debug)]
 pub enum Token {
     Name(usize),
     Number(u32),

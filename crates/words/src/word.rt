@@ -4,14 +4,14 @@ use crate::refusal::Refusal;
 use crate::token::Token;
 
 // A token, and the place of its first byte.
-#[derive(Clone, Copy)]
+#[derive(Clone, Copy, PartialEq, Eq, Debug)]
 pub struct Word {
     pub token: Token,
     pub place: usize,
 }
 
 // The next word and the place to go on from, the end of the text, or a refusal.
-#[derive(Clone, Copy)]
+#[derive(Clone, Copy, PartialEq, Eq, Debug)]
 pub enum Next {
     Word(Word, usize),
     End,
