@@ -6,30 +6,23 @@ ghost use Rattle.code.specs.WellFormed.{JumpsReach, PassingIsWellFormed, WellFor
 use crate::checked::Checked;
 
 // The check passes just the code that is well formed.
-pub fn passing_is_well_formed() -> u8
+pub fn passing_is_well_formed()
     ensures { PassingIsWellFormed }
-{
-    0
-}
+{}
 
 // The worked cases of the check.
-pub fn check_cases_hold() -> u8
+pub fn check_cases_hold()
     ensures { CheckCases }
-{
-    0
-}
+{}
 
 // Checked code is well formed.
-pub fn checked_is_well_formed(code: &Checked<'_>) -> u8
+pub fn checked_is_well_formed(code: &Checked<'_>)
     ensures { WellFormed (code_in code.now) }
 {
     let _ = code;
-    0
 }
 
 // In well-formed code a jump reaches a place where the stack is empty.
-pub fn jumps_reach() -> u8
+pub fn jumps_reach()
     ensures { JumpsReach }
-{
-    0
-}
+{}

@@ -3,8 +3,6 @@
 ghost use Rattle.rolls.specs.Cases.{WorkedCases};
 
 // Stands for the theorem that the worked cases hold.
-pub fn worked_cases_hold() -> bool
+pub fn worked_cases_hold()
     ensures { WorkedCases }
-{
-    true
-}
+{}
