@@ -1,39 +1,14 @@
--- The next word from a place on: the blanks before it are passed over, then its first byte decides.
-use Rattle.std.proofs.Common.{◌≡◌, ℕ, suc, ◌+◌, ◌<◌, ◌≤◌, Bool, true, false, cond, List, [], ◌∷◌, length, get_or, drop, sym, refl, ap, ◌∙◌, add-zero, one-add, arith, drop-drop}
+-- The next word from a place on: the blanks before it are passed over.
+use Rattle.std.proofs.Common.{◌≡◌, ℕ, suc, ◌+◌, ◌-◌, ◌<◌, ◌≤◌, Bool, true, false, cond, List, [], ◌∷◌, length, get_or, take, drop, Some, Ok, Err, sym, refl, ap, ◌∙◌, subst, add-zero, one-add, arith, drop-drop}
 use Rattle.std.specs.List.{prefix_len}
-use Rattle.std.specs.Char.{is_ascii_digit, is_ascii_alphabetic}
-use Rattle.std.proofs.lemmas.List.{at_drop_more, at_drop_all, get_or-drop, length-drop}
-use Rattle.std.proofs.lemmas.Bool.{cond-true, cond-false}
+use Rattle.std.proofs.lemmas.List.{at_drop_more, at_drop_all, get_or-drop, length-drop, take_all}
+use Rattle.std.proofs.lemmas.List.Sums.{prefix_len_stops}
 use Rattle.words.specs.Spelling.{blank}
-use Rattle.words.specs.Records.{Advances}
-use Rattle.words.specs.declared.word.Next.{Next as NextRecord}
-use Rattle.words.specs.declared.word.Next.TheVariants.{Word as NextWord, End, Refused}
-use Rattle.words.specs.Words.{name_at, number_at, mark_at, longest_at, word_at, next_of, end}
-
--- The byte after a run of a class is not of the class.
-pub after_run : (p : ℕ → Bool) (bs : List ℕ) → prefix_len p bs < length bs → p (get_or bs (prefix_len p bs) 0) ≡ false
-after_run p [] lt = absurd (omega arith)
-after_run p (b ∷ bs) lt = go (p b) refl (after_run p bs) lt
-  where
-    go : (c : Bool) → p b ≡ c → (prefix_len p bs < length bs → p (get_or bs (prefix_len p bs) 0) ≡ false)
-        → cond c (1 + prefix_len p bs) 0 < suc (length bs) → p (get_or (b ∷ bs) (cond c (1 + prefix_len p bs) 0) 0) ≡ false
-    go true e ih lt = rw (one-add (prefix_len p bs)) (ih (omega arith))
-    go false e ih lt = e
-
--- The first byte decides what the longest word is.
-module _ (b : ℕ) (bs : List ℕ) where
-  pub letter_to_longest_is_name : is_ascii_alphabetic b ≡ true → longest_at (b ∷ bs) ≡ name_at (b ∷ bs)
-  letter_to_longest_is_name l = cond-true (is_ascii_alphabetic b) (name_at (b ∷ bs)) (cond (is_ascii_digit b) (number_at (b ∷ bs)) (mark_at (b ∷ bs))) l
-
-  pub digit_to_longest_is_number : is_ascii_alphabetic b ≡ false → is_ascii_digit b ≡ true → longest_at (b ∷ bs) ≡ number_at (b ∷ bs)
-  digit_to_longest_is_number l d =
-      cond-false (is_ascii_alphabetic b) (name_at (b ∷ bs)) (cond (is_ascii_digit b) (number_at (b ∷ bs)) (mark_at (b ∷ bs))) l
-      ∙ cond-true (is_ascii_digit b) (number_at (b ∷ bs)) (mark_at (b ∷ bs)) d
-
-  pub other_to_longest_is_mark : is_ascii_alphabetic b ≡ false → is_ascii_digit b ≡ false → longest_at (b ∷ bs) ≡ mark_at (b ∷ bs)
-  other_to_longest_is_mark l d =
-      cond-false (is_ascii_alphabetic b) (name_at (b ∷ bs)) (cond (is_ascii_digit b) (number_at (b ∷ bs)) (mark_at (b ∷ bs))) l
-      ∙ cond-false (is_ascii_digit b) (number_at (b ∷ bs)) (mark_at (b ∷ bs)) d
+use Rattle.words.specs.Words.{longest_at, word_at, next_of, end, next_word, next_refused}
+use Rattle.words.specs.Records.{token_in, next_in}
+use Rattle.words.specs.Inner.{taken_at}
+use Rattle.words.specs.declared.token.Token.{Token as TokenRecord}
+use Rattle.words.specs.declared.refusal.WordRefusal.{WordRefusal}
 
 -- Blanks at the front are passed over.
 pub next_over_blanks : (p : ℕ) (bs : List ℕ) → next_of p bs ≡ next_of (p + prefix_len blank bs) (drop (prefix_len blank bs) bs)
@@ -61,36 +36,29 @@ module _ (t : List ℕ) (at n : ℕ) (run : n ≡ prefix_len blank (drop at t)) 
     first_not_blank =
         ap blank (sym (get_or-drop at t n 0))
         ∙ (ap (λ k. blank (get_or (drop at t) k 0)) run
-        ∙ after_run blank (drop at t) (omega (arith, run, length-drop at t)))
+        ∙ prefix_len_stops blank (drop at t) 0 (omega (arith, run, length-drop at t)))
 
     first_byte : drop (at + n) t ≡ get_or t (at + n) 0 ∷ drop (at + n + 1) t
     first_byte = at_drop_more (λ z. z) t (at + n) 0 lt
 
-    next_is_longest : next_of at (drop at t) ≡ word_at (at + n) (drop (at + n) t) (longest_at (drop (at + n) t))
+    next_is_longest : word_at (at + n) (drop (at + n) t) (longest_at (drop (at + n) t)) ≡ next_of at (drop at t)
     next_is_longest =
-        next_behind_blanks
+        sym (next_behind_blanks
         ∙ (ap (next_of (at + n)) first_byte
-        ∙ (rw first_not_blank (ap (λ z. word_at (at + n) z (longest_at z)) (sym first_byte))))
+        ∙ (rw first_not_blank (ap (λ z. word_at (at + n) z (longest_at z)) (sym first_byte)))))
 
-    pub next_is_name : is_ascii_alphabetic (get_or t (at + n) 0) ≡ true → word_at (at + n) (drop (at + n) t) (name_at (drop (at + n) t)) ≡ next_of at (drop at t)
-    next_is_name letter =
-        let e : longest_at (drop (at + n) t) ≡ name_at (drop (at + n) t) = ap longest_at first_byte ∙ (letter_to_longest_is_name (get_or t (at + n) 0) (drop (at + n + 1) t) letter ∙ ap name_at (sym first_byte)) in
-        sym (next_is_longest ∙ ap (word_at (at + n) (drop (at + n) t)) e)
+    -- What was read of the bytes from there on, as a part of the text.
+    module _ (bytes : List ℕ) (part : bytes ≡ drop (at + n) t) where
+      pub word_to_next : (m : TokenRecord) (k : ℕ) → taken_at (at + n) bytes (Ok (m, k)) ≡ word_at (at + n) bytes (longest_at bytes)
+          → next_in t (Ok (Some (record { token = m; place = at + n }, at + n + k))) ≡ next_of at (drop at t)
+      word_to_next m k e =
+          ap (next_word (record { token = token_in (drop (at + n) t) m; place = at + n }) (at + n + k)) (sym (drop-drop k (at + n) t))
+          ∙ (subst (λ z. taken_at (at + n) z (Ok (m, k)) ≡ word_at (at + n) z (longest_at z)) part e
+          ∙ next_is_longest)
 
-    pub next_is_number : is_ascii_alphabetic (get_or t (at + n) 0) ≡ false → is_ascii_digit (get_or t (at + n) 0) ≡ true
-        → word_at (at + n) (drop (at + n) t) (number_at (drop (at + n) t)) ≡ next_of at (drop at t)
-    next_is_number no-letter digit =
-        let e : longest_at (drop (at + n) t) ≡ number_at (drop (at + n) t) = ap longest_at first_byte ∙ (digit_to_longest_is_number (get_or t (at + n) 0) (drop (at + n + 1) t) no-letter digit ∙ ap number_at (sym first_byte)) in
-        sym (next_is_longest ∙ ap (word_at (at + n) (drop (at + n) t)) e)
+      pub refusal_to_next : (r : WordRefusal) → taken_at (at + n) bytes (Err r) ≡ word_at (at + n) bytes (longest_at bytes) → next_refused r (at + n) ≡ next_of at (drop at t)
+      refusal_to_next r e = e ∙ (ap (λ z. word_at (at + n) z (longest_at z)) part ∙ next_is_longest)
 
-    pub next_is_mark : is_ascii_alphabetic (get_or t (at + n) 0) ≡ false → is_ascii_digit (get_or t (at + n) 0) ≡ false
-        → word_at (at + n) (drop (at + n) t) (mark_at (drop (at + n) t)) ≡ next_of at (drop at t)
-    next_is_mark no-letter no_digit =
-        let e : longest_at (drop (at + n) t) ≡ mark_at (drop (at + n) t) = ap longest_at first_byte ∙ (other_to_longest_is_mark (get_or t (at + n) 0) (drop (at + n + 1) t) no-letter no_digit ∙ ap mark_at (sym first_byte)) in
-        sym (next_is_longest ∙ ap (word_at (at + n) (drop (at + n) t)) e)
-
--- What lies after a place lies after an earlier one.
-pub advances_from_earlier : (at place size : ℕ) (r : NextRecord) → at ≤ place → Advances place size r → Advances at size r
-advances_from_earlier at place size (NextWord w p) le h = (omega (arith, h.0), h.1)
-advances_from_earlier at place size End le h = tt
-advances_from_earlier at place size (Refused e) le h = tt
+-- A part of a text that goes up to its end.
+pub part_to_end : (t : List ℕ) (p : ℕ) → take (length t - p) (drop p t) ≡ drop p t
+part_to_end t p = take_all (length t - p) (drop p t) (omega (arith, length-drop p t))

@@ -1,20 +1,19 @@
--- One word at a place of a text: what the reader's answers mean by the definition.
-use Rattle.std.proofs.Common.{◌≡◌, ℕ, ◌+◌, ◌-◌, ◌<◌, ◌≤◌, Bool, true, false, cond, eqb, leb, ◌≢◌, List, [], ◌∷◌, length, get_or, take, drop, IfSome, Some, None, codes, Option, sym, refl, ap, ◌∙◌, one-add, arith, length-take, drop-drop}
+-- One word at the front of some bytes: what the reader's answers mean by the definition.
+use Rattle.std.proofs.Common.{◌≡◌, ℕ, ◌+◌, ◌<◌, ◌≤◌, Bool, true, false, cond, eqb, ◌≢◌, List, [], ◌∷◌, length, get_or, take, drop, codes, Ok, sym, refl, ap, ◌∙◌, one-add, arith, length-take}
 use Rattle.std.specs.List.{prefix_len, AllByRecursion as All}
 use Rattle.std.specs.Char.{is_ascii_digit, is_ascii_alphanumeric, is_ascii_alphabetic}
-use Rattle.std.proofs.lemmas.List.{at_drop_more, at_drop_all, length-take-le}
-use Rattle.std.proofs.lemmas.Bool.{lt-leb, le-leb, cond_both, ne_eqb}
+use Rattle.std.proofs.lemmas.List.{at_drop_more, length-take-le}
+use Rattle.std.proofs.lemmas.Bool.{lt-leb, le-leb, cond_both, ne_eqb, cond-true, cond-false}
 use Rattle.std.proofs.lemmas.List.Sums.{prefix_len-drop_yes, prefix_len-le-length}
 use Rattle.std.proofs.lemmas.Bool.Decides.{nat_tests}
 use Rattle.words.specs.Token.{Token, name, number}
 use Rattle.words.specs.Spelling.{Fixed, two_byte_marks, one_byte_marks, reserved_words, MadeOf, not_semicolon, value_of}
 use Rattle.std.specs.Str.{bytes_eq}
-use Rattle.words.specs.Words.{found, nothing, exactly, first_of, mark_at, name_at, number_at, name_token, short, skipped, word_at, next_word, next_refused}
-use Rattle.words.specs.Records.{token_in, next_in}
-use Rattle.words.specs.Inner.{IsMark}
+use Rattle.words.specs.Words.{found, nothing, exactly, first_of, mark_at, name_at, number_at, longest_at, name_token, short, skipped, word_at, next_word, next_refused}
+use Rattle.words.specs.Records.{token_in}
+use Rattle.words.specs.Inner.{IsMark, taken_at}
 use Rattle.words.specs.declared.token.Token.{Token as TokenRecord}
 use Rattle.words.specs.declared.token.Token.TheVariants.{Name, Number, Keyword, Mark, Sign, Scaling, Relation}
-use Rattle.words.specs.declared.word.Next.TheVariants.{Word as NextWord}
 use Rattle.words.specs.declared.refusal.WordRefusal.TheVariants.{WordTooLong}
 use Rattle.words.proofs.Comparison.{lengths_differ_to_not_same}
 use Rattle.words.proofs.Digits.{digit_to_range}
@@ -29,66 +28,14 @@ leading_made_of p (b ∷ bs) = go (p b) refl (leading_made_of p bs)
     go true e m = rw (one-add (prefix_len p bs)) (e, m)
     go false e m = tt
 
--- A short word at a place, n bytes long, that skips k bytes more: the definition goes on at the place behind both.
-pub short_word : (t : List ℕ) (place n k : ℕ) (tok : Token) → short tok n ≡ true → skipped (take n (drop place t)) (drop n (drop place t)) ≡ k
-    → word_at place (drop place t) (found tok n) ≡ next_word (record { token = tok; place = place }) (place + (n + k)) (drop (place + (n + k)) t)
-short_word t place n k tok s e = rw (s, e, drop-drop (n + k) place t)
-
 -- Only `comment` skips anything: bytes of another length or another first byte do not.
 pub other_length_skips_nothing : (s rest : List ℕ) → length s ≢ 7 → skipped s rest ≡ 0
 other_length_skips_nothing s rest h = ap (λ c. cond c (prefix_len not_semicolon rest) 0) (lengths_differ_to_not_same s (codes "comment") h)
-
--- A mark of n bytes, 1 or 2, by its record.
-module _ (t : List ℕ) (place n : ℕ) (few : n ≤ 2) where
-  skips_nothing : skipped (take n (drop place t)) (drop n (drop place t)) ≡ 0
-  skips_nothing = other_length_skips_nothing (take n (drop place t)) (drop n (drop place t)) (λ e. omega (arith, e, length-take n (drop place t)))
-
-  mark_short : (m : TokenRecord) → IsMark m → short (token_in [] m) n ≡ true
-  mark_short (Name k) i = absurd i
-  mark_short (Number v) i = absurd i
-  mark_short (Keyword k) i = absurd i
-  mark_short (Mark m) i = refl
-  mark_short (Sign m) i = refl
-  mark_short (Scaling m) i = refl
-  mark_short (Relation m) i = refl
-
-  mark_in : (m : TokenRecord) → IsMark m → token_in (drop place t) m ≡ token_in [] m
-  mark_in (Name k) i = absurd i
-  mark_in (Number v) i = absurd i
-  mark_in (Keyword k) i = absurd i
-  mark_in (Mark m) i = refl
-  mark_in (Sign m) i = refl
-  mark_in (Scaling m) i = refl
-  mark_in (Relation m) i = refl
-
-  pub mark_read : (m : TokenRecord) → IsMark m → mark_at (drop place t) ≡ found (token_in [] m) n
-      → next_in t (NextWord (record { token = m; place = place }) (place + n)) ≡ word_at place (drop place t) (mark_at (drop place t))
-  mark_read m i e =
-      ap (λ tok. next_word (record { token = tok; place = place }) (place + n) (drop (place + n) t)) (mark_in m i)
-      ∙ (ap (λ q. next_word (record { token = token_in [] m; place = place }) q (drop q t)) (omega arith)
-      ∙ (sym (short_word t place n 0 (token_in [] m) (mark_short m i) skips_nothing)
-      ∙ ap (word_at place (drop place t)) (sym e)))
 
 -- The table of marks is searched in two parts.
 pub marks_in_two_parts : (bs : List ℕ) → mark_at bs ≡ first_of two_byte_marks bs (first_of one_byte_marks bs nothing)
 unfolding mark_at
 marks_in_two_parts bs = refl
-
--- The two bytes at a place that has another behind it.
-pub two_bytes_at : (t : List ℕ) (place : ℕ) → place + 1 < length t → drop place t ≡ get_or t place 0 ∷ (get_or t (place + 1) 0 ∷ drop (place + 2) t)
-two_bytes_at t place lt =
-    at_drop_more (λ z. z) t place 0 (omega arith)
-    ∙ (at_drop_more (λ z. get_or t place 0 ∷ z) t (place + 1) 0 lt
-    ∙ ap (λ i. get_or t place 0 ∷ (get_or t (place + 1) 0 ∷ drop i t)) (omega arith))
-
--- The one byte at the last place.
-pub last_byte_at : (t : List ℕ) (place : ℕ) → place < length t → length t ≤ place + 1 → drop place t ≡ get_or t place 0 ∷ []
-last_byte_at t place lt le = at_drop_more (λ z. z) t place 0 lt ∙ at_drop_all (λ z. get_or t place 0 ∷ z) t (place + 1) le
-
--- A fact that does not depend on the value joins one that does.
-pub with_fact : (r : Option TokenRecord) (P : TokenRecord → Type 0) (Q : Type 0) → IfSome r P → Q → IfSome r (λ m. P m × Q)
-with_fact None P Q h q = tt
-with_fact (Some m) P Q h q = (h, q)
 
 -- What a choice from a table keeps: a property of every entry's token and of the token given.
 exactly_keeps : (P : Token → Type 0) (s : List ℕ) (o : Token) → P o → (fs : List Fixed) → All (λ f. P f.token) fs → P (exactly fs s o)
@@ -113,51 +60,107 @@ digits_skip_nothing (b ∷ s) rest m = let d : eqb b 99 ≡ false = ne_eqb b 99 
 pub letter_to_alnum : (b : ℕ) → is_ascii_alphabetic b ≡ true → is_ascii_alphanumeric b ≡ true
 letter_to_alnum b h = grind (arith, nat_tests)
 
--- A run of n bytes of a class at a place, and the part of the text that it is.
-module _ (p : ℕ → Bool) (t : List ℕ) (place n : ℕ) (run : n ≡ prefix_len p (drop place t)) where
-  pub run_part : take (place + n - place) (drop place t) ≡ take (prefix_len p (drop place t)) (drop place t)
-  run_part = ap (λ i. take i (drop place t)) (omega (arith, run))
+-- A mark keeps its kind wherever it is read, and is short.
+mark_short : (n : ℕ) (m : TokenRecord) → IsMark m → short (token_in [] m) n ≡ true
+mark_short n (Name k) i = absurd i
+mark_short n (Number v) i = absurd i
+mark_short n (Keyword k) i = absurd i
+mark_short n (Mark m) i = refl
+mark_short n (Sign m) i = refl
+mark_short n (Scaling m) i = refl
+mark_short n (Relation m) i = refl
 
-  pub run_made_of : MadeOf p (take (place + n - place) (drop place t))
-  run_made_of = rw run_part (leading_made_of p (drop place t))
+mark_in : (bs : List ℕ) (m : TokenRecord) → IsMark m → token_in bs m ≡ token_in [] m
+mark_in bs (Name k) i = absurd i
+mark_in bs (Number v) i = absurd i
+mark_in bs (Keyword k) i = absurd i
+mark_in bs (Mark m) i = refl
+mark_in bs (Sign m) i = refl
+mark_in bs (Scaling m) i = refl
+mark_in bs (Relation m) i = refl
 
-  pub run_length : length (take (prefix_len p (drop place t)) (drop place t)) ≡ n
-  run_length = length-take-le (prefix_len p (drop place t)) (drop place t) (prefix_len-le-length p (drop place t)) ∙ sym run
+module _ (p : ℕ) (bs : List ℕ) where
+  -- A short word at the front, n bytes long, that skips k bytes more: the definition goes on behind both.
+  pub short_word : (n k : ℕ) (t : Token) → short t n ≡ true → skipped (take n bs) (drop n bs) ≡ k
+      → word_at p bs (found t n) ≡ next_word (record { token = t; place = p }) (p + (n + k)) (drop (n + k) bs)
+  short_word n k t s e = rw (s, e)
 
-  pub run_not_empty : place < length t → p (get_or t place 0) ≡ true → 0 < n
-  run_not_empty lt e = omega (arith, run, prefix_len-drop_yes p t place 0 lt e)
+  -- A mark of n bytes, 1 or 2, by its record.
+  pub mark_read : (n : ℕ) (m : TokenRecord) → n ≤ 2 → IsMark m → mark_at bs ≡ found (token_in [] m) n → taken_at p bs (Ok (m, n)) ≡ word_at p bs (mark_at bs)
+  mark_read n m few i e =
+      let nothing_more = other_length_skips_nothing (take n bs) (drop n bs) (λ l. omega (arith, l, length-take n bs)) in
+      ap (λ t. next_word (record { token = t; place = p }) (p + n) (drop n bs)) (mark_in bs m i)
+      ∙ (ap (λ k. next_word (record { token = token_in [] m; place = p }) (p + k) (drop k bs)) (omega arith)
+      ∙ (sym (short_word n 0 (token_in [] m) (mark_short n m i) nothing_more)
+      ∙ ap (word_at p bs) (sym e)))
 
--- A name or reserved word by its record: of n bytes, skipping k more.
-module _ (t : List ℕ) (place n : ℕ) (run : n ≡ prefix_len is_ascii_alphanumeric (drop place t)) where
-  abbrev spelled : List ℕ
-  spelled = take (prefix_len is_ascii_alphanumeric (drop place t)) (drop place t)
+  -- A name or reserved word by its record: of n bytes, skipping k more.
+  module _ (n : ℕ) (run : n ≡ prefix_len is_ascii_alphanumeric bs) where
+    name_here : word_at p bs (found (name_token (take n bs)) n) ≡ word_at p bs (name_at bs)
+    name_here = ap (λ l. word_at p bs (found (name_token (take l bs)) l)) run
 
-  pub name_read : (k : ℕ) (m : TokenRecord) → n ≤ 16 → token_in (drop place t) m ≡ name_token spelled → k ≡ skipped spelled (drop (place + n) t)
-      → next_in t (NextWord (record { token = m; place = place }) (place + n + k)) ≡ word_at place (drop place t) (name_at (drop place t))
-  name_read k m le et ek =
-      let l = prefix_len is_ascii_alphanumeric (drop place t) in
-      let es : skipped spelled (drop l (drop place t)) ≡ k = ap (skipped spelled) (drop-drop l place t ∙ ap (λ i. drop (place + i) t) (sym run)) ∙ sym ek in
-      let eq : place + n + k ≡ place + (l + k) = omega (arith, run) in
-      ap (λ tok. next_word (record { token = tok; place = place }) (place + n + k) (drop (place + n + k) t)) et
-      ∙ (ap (λ q. next_word (record { token = name_token spelled; place = place }) q (drop q t)) eq
-      ∙ sym (short_word t place l k (name_token spelled) (name_short spelled l (omega (arith, run))) es))
+    pub name_read : (k : ℕ) (m : TokenRecord) → n ≤ 16 → token_in bs m ≡ name_token (take n bs) → k ≡ skipped (take n bs) (drop n bs)
+        → taken_at p bs (Ok (m, n + k)) ≡ word_at p bs (name_at bs)
+    name_read k m le et ek =
+        ap (λ t. next_word (record { token = t; place = p }) (p + (n + k)) (drop (n + k) bs)) et
+        ∙ (sym (short_word n k (name_token (take n bs)) (name_short (take n bs) n le) (sym ek))
+        ∙ name_here)
 
-  pub name_refused : 16 < n → next_refused WordTooLong place ≡ word_at place (drop place t) (name_at (drop place t))
-  name_refused lt =
-      let l = prefix_len is_ascii_alphanumeric (drop place t) in
-      let e : short (name_token spelled) l ≡ false = name_too_long spelled l (run_length is_ascii_alphanumeric t place n run ∙ run) (omega (arith, run)) in
-      rw e
+    pub name_refused : 16 < n → next_refused WordTooLong p ≡ word_at p bs (name_at bs)
+    name_refused lt =
+        let e = name_too_long (take n bs) n (length-take-le n bs (omega (arith, run, prefix_len-le-length is_ascii_alphanumeric bs))) lt in
+        sym (rw e) ∙ name_here
 
--- A number by its record.
-module _ (t : List ℕ) (place n : ℕ) (run : n ≡ prefix_len is_ascii_digit (drop place t)) where
-  pub number_read : (v : ℕ) → n ≤ 9 → v ≡ value_of (take (prefix_len is_ascii_digit (drop place t)) (drop place t))
-      → next_in t (NextWord (record { token = Number v; place = place }) (place + n)) ≡ word_at place (drop place t) (number_at (drop place t))
-  number_read v le ev =
-      let l = prefix_len is_ascii_digit (drop place t) in
-      let eq : place + n ≡ place + (l + 0) = omega (arith, run) in
-      ap (λ x. next_word (record { token = number x; place = place }) (place + n) (drop (place + n) t)) ev
-      ∙ (ap (λ q. next_word (record { token = number (value_of (take l (drop place t))); place = place }) q (drop q t)) eq
-      ∙ sym (short_word t place l 0 (number (value_of (take l (drop place t)))) (le-leb l 9 (omega (arith, run))) (digits_skip_nothing (take l (drop place t)) (drop l (drop place t)) (leading_made_of is_ascii_digit (drop place t)))))
+  -- A number by its record.
+  module _ (n : ℕ) (run : n ≡ prefix_len is_ascii_digit bs) where
+    number_here : word_at p bs (found (number (value_of (take n bs))) n) ≡ word_at p bs (number_at bs)
+    number_here = ap (λ l. word_at p bs (found (number (value_of (take l bs))) l)) run
 
-  pub number_refused : 9 < n → next_refused WordTooLong place ≡ word_at place (drop place t) (number_at (drop place t))
-  number_refused lt = let e : leb (prefix_len is_ascii_digit (drop place t)) 9 ≡ false = lt-leb (prefix_len is_ascii_digit (drop place t)) 9 (omega (arith, run)) in rw e
+    pub digits_made_of : MadeOf is_ascii_digit (take n bs)
+    digits_made_of = rw run (leading_made_of is_ascii_digit bs)
+
+    pub number_read : (v : ℕ) → n ≤ 9 → v ≡ value_of (take n bs) → taken_at p bs (Ok (Number v, n)) ≡ word_at p bs (number_at bs)
+    number_read v le ev =
+        ap (λ x. next_word (record { token = number x; place = p }) (p + n) (drop n bs)) ev
+        ∙ (ap (λ k. next_word (record { token = number (value_of (take n bs)); place = p }) (p + k) (drop k bs)) (omega arith)
+        ∙ (sym (short_word n 0 (number (value_of (take n bs))) (le-leb n 9 le) (digits_skip_nothing (take n bs) (drop n bs) digits_made_of))
+        ∙ number_here))
+
+    pub number_refused : 9 < n → next_refused WordTooLong p ≡ word_at p bs (number_at bs)
+    number_refused lt = let e = lt-leb n 9 lt in sym (rw e) ∙ number_here
+
+-- The first byte decides what the longest word is.
+module _ (bs : List ℕ) (some : 0 < length bs) where
+  abbrev first : ℕ
+  first = get_or bs 0 0
+
+  whole : bs ≡ first ∷ drop 1 bs
+  whole = at_drop_more (λ z. z) bs 0 0 some
+
+  by_first : longest_at bs ≡ cond (is_ascii_alphabetic first) (name_at bs) (cond (is_ascii_digit first) (number_at bs) (mark_at bs))
+  by_first = ap longest_at whole ∙ ap (λ z. cond (is_ascii_alphabetic first) (name_at z) (cond (is_ascii_digit first) (number_at z) (mark_at z))) (sym whole)
+
+  pub letter_to_longest_is_name : is_ascii_alphabetic first ≡ true → longest_at bs ≡ name_at bs
+  letter_to_longest_is_name l = by_first ∙ cond-true (is_ascii_alphabetic first) (name_at bs) (cond (is_ascii_digit first) (number_at bs) (mark_at bs)) l
+
+  pub digit_to_longest_is_number : is_ascii_alphabetic first ≡ false → is_ascii_digit first ≡ true → longest_at bs ≡ number_at bs
+  digit_to_longest_is_number l d =
+      by_first
+      ∙ (cond-false (is_ascii_alphabetic first) (name_at bs) (cond (is_ascii_digit first) (number_at bs) (mark_at bs)) l
+      ∙ cond-true (is_ascii_digit first) (number_at bs) (mark_at bs) d)
+
+  pub other_to_longest_is_mark : is_ascii_alphabetic first ≡ false → is_ascii_digit first ≡ false → longest_at bs ≡ mark_at bs
+  other_to_longest_is_mark l d =
+      by_first
+      ∙ (cond-false (is_ascii_alphabetic first) (name_at bs) (cond (is_ascii_digit first) (number_at bs) (mark_at bs)) l
+      ∙ cond-false (is_ascii_digit first) (number_at bs) (mark_at bs) d)
+
+  -- A run of a class that its first byte is of is not empty.
+  pub run_not_empty : (p : ℕ → Bool) → p first ≡ true → 0 < prefix_len p bs
+  run_not_empty p e = omega (arith, prefix_len-drop_yes p bs 0 0 some e)
+
+-- The two bytes at the front.
+pub two_bytes : (bs : List ℕ) → 2 ≤ length bs → bs ≡ get_or bs 0 0 ∷ (get_or bs 1 0 ∷ drop 2 bs)
+two_bytes [] le = absurd (omega arith)
+two_bytes (a ∷ []) le = absurd (omega arith)
+two_bytes (a ∷ (b ∷ bs)) le = refl

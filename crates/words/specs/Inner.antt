@@ -1,23 +1,13 @@
--- What the contracts of the crate's inner functions say: classes of bytes, and fixed words looked up. No public contract
--- cites these.
-use Rattle.std.specs.Prelude.{ℕ, Bool, [], Some, None, Option}
-use Rattle.std.specs.Char.{is_ascii_digit, is_ascii_alphanumeric}
-use Rattle.words.specs.declared.bytes.Class.{Class}
-use Rattle.words.specs.declared.bytes.Class.TheVariants.{Blank, LetterOrDigit, Digit, CommentText}
+-- What the contracts of the crate's inner functions say: fixed words looked up, and a word at the front of some bytes. No
+-- public contract cites these.
+use Rattle.std.specs.Prelude.{ℕ, ◌+◌, ◌<◌, ◌≤◌, List, [], drop, Some, None, Option, Ok, Err, Result}
 use Rattle.words.specs.declared.token.Token.{Token as TokenRecord}
 use Rattle.words.specs.declared.token.Token.TheVariants.{Name, Number, Keyword, Mark, Sign, Scaling, Relation}
 use Rattle.words.specs.declared.token.Keyword.{Keyword as KeywordRecord}
+use Rattle.words.specs.declared.refusal.WordRefusal.{WordRefusal}
 use Rattle.words.specs.Token.{Token, keyword}
-use Rattle.words.specs.Spelling.{blank, not_semicolon}
-use Rattle.words.specs.Words.{Found, found}
+use Rattle.words.specs.Words.{Found, found, Next, next_word, next_refused}
 use Rattle.words.specs.Records.{token_in}
-
--- The classes of bytes that runs are made of.
-abbrev pub in_class : Class → ℕ → Bool
-in_class Blank b = blank b
-in_class LetterOrDigit b = is_ascii_alphanumeric b
-in_class Digit b = is_ascii_digit b
-in_class CommentText b = not_semicolon b
 
 -- A reserved word or mark that was looked up, else what is given.
 abbrev pub keyword_or : Option KeywordRecord → Token → Token
@@ -37,3 +27,14 @@ IsMark (Mark m) = Unit {0}
 IsMark (Sign s) = Unit {0}
 IsMark (Scaling s) = Unit {0}
 IsMark (Relation r) = Unit {0}
+
+-- The word at the front of the bytes bs, which stand at place p: its token and how many bytes it takes with what it
+-- skips, or why it is refused.
+abbrev pub taken_at : ℕ → List ℕ → Result (TokenRecord × ℕ) WordRefusal → Next
+taken_at p bs (Ok r) = next_word (record { token = token_in bs r.0; place = p }) (p + r.1) (drop r.1 bs)
+taken_at p bs (Err e) = next_refused e p
+
+-- It takes at least one byte, and no more than there are.
+abbrev pub TakesSome : ℕ → Result (TokenRecord × ℕ) WordRefusal → Type 0
+TakesSome size (Ok r) = (0 < r.1) × (r.1 ≤ size)
+TakesSome size (Err e) = Unit {0}

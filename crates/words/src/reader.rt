@@ -1,17 +1,18 @@
 // The reader: from a text and a place to the next word.
 
-ghost use Rattle.std.specs.Prelude.{◌≡◌, ℕ, ◌+◌, ◌<◌, ◌≤◌, true, List, length, take, drop, IfSome, slice_index};
+ghost use Rattle.std.specs.Prelude.{◌≡◌, ℕ, ◌-◌, ◌<◌, ◌≤◌, true, List, length, take, drop, slice_index, IfSome};
 ghost use Rattle.std.specs.Char.{is_ascii_alphabetic, is_ascii_digit};
+ghost use Rattle.std.specs.Iterator.{at_most};
 ghost use Rattle.words.specs.Spelling.{two_byte_marks};
-ghost use Rattle.words.specs.Words.{Found, first_of, name_token, skipped, name_at, number_at, mark_at, word_at, next_of};
-ghost use Rattle.words.specs.Records.{token_in, next_in, Advances};
-ghost use Rattle.words.specs.Inner.{mark_or, IsMark};
+ghost use Rattle.words.specs.Words.{Found, first_of, name_token, skipped, name_at, number_at, mark_at, longest_at, word_at, next_of};
+ghost use Rattle.words.specs.Records.{token_in, next_in, Advances, Gives};
+ghost use Rattle.words.specs.Inner.{mark_or, IsMark, taken_at, TakesSome};
 
-use crate::bytes::{Class, equal, run, value};
+use crate::bytes::{run, value};
 use crate::fixed::{keyword, one_byte_mark, two_byte_mark};
 use crate::refusal::{Refusal, WordRefusal};
 use crate::token::Token;
-use crate::word::{Next, Word};
+use crate::word::Word;
 
 const LONGEST_NAME: usize = 16;
 
@@ -27,107 +28,139 @@ fn name_token(name: &[u8]) -> Token
     }
 }
 
-// How many bytes from `after` on the name or reserved word before them skips.
-fn skipped_after(name: &[u8], text: &[u8], after: usize) -> usize
-    requires { after ≤ length text.now }
-    ensures is { result ≡ skipped name.now (drop after text.now) }
-    ensures within { after + result ≤ length text.now }
+// How many of the bytes after it a name or reserved word skips.
+fn skipped(name: &[u8], after: &[u8]) -> usize
+    ensures is { result ≡ skipped name.now after.now }
+    ensures within { result ≤ length after.now }
 {
-    if equal(name, b"comment") {
-        return run(text, after, Class::CommentText);
+    match name {
+        b"comment" => run(after, |b| *b != b';'),
+        _ => 0,
     }
-    0
 }
 
-// The name or reserved word at `place`, where a letter stands.
-fn read_name(text: &[u8], place: usize) -> Next
-    requires within { place < length text.now }
-    requires letter { is_ascii_alphabetic (slice_index text.now place) ≡ true }
-    ensures is { next_in text.now result ≡ word_at place (drop place text.now) (name_at (drop place text.now)) }
-    ensures advances { Advances place (length text.now) result }
+// The name or reserved word at the front, where a letter stands: its token, and how many bytes it takes with what it skips.
+fn read_name(bytes: &[u8]) -> Result<(Token, usize), WordRefusal>
+    requires some { 0 < length bytes.now }
+    requires letter { is_ascii_alphabetic (slice_index bytes.now 0) ≡ true }
+    ensures is { (p : ℕ) → taken_at p bytes.now result ≡ word_at p bytes.now (name_at bytes.now) }
+    ensures takes { TakesSome (length bytes.now) result }
 {
-    let length = run(text, place, Class::LetterOrDigit);
+    let length = run(bytes, |b| b.is_ascii_alphanumeric());
     if length > LONGEST_NAME {
-        return Next::Refused(Refusal {
-            reason: WordRefusal::WordTooLong,
-            place,
-        });
+        return Err(WordRefusal::WordTooLong);
     }
-    let after = place + length;
-    let name = &text[place..after];
-    let token = name_token(name);
-    let skipped = skipped_after(name, text, after);
-    Next::Word(Word { token, place }, after + skipped)
+    let (name, after) = bytes.split_at(length);
+    Ok((name_token(name), length + skipped(name, after)))
 }
 
-// The number at `place`, where a digit stands.
-fn read_number(text: &[u8], place: usize) -> Next
-    requires within { place < length text.now }
-    requires digit { is_ascii_digit (slice_index text.now place) ≡ true }
-    ensures is { next_in text.now result ≡ word_at place (drop place text.now) (number_at (drop place text.now)) }
-    ensures advances { Advances place (length text.now) result }
+// The number at the front, where a digit stands.
+fn read_number(bytes: &[u8]) -> Result<(Token, usize), WordRefusal>
+    requires some { 0 < length bytes.now }
+    requires digit { is_ascii_digit (slice_index bytes.now 0) ≡ true }
+    ensures is { (p : ℕ) → taken_at p bytes.now result ≡ word_at p bytes.now (number_at bytes.now) }
+    ensures takes { TakesSome (length bytes.now) result }
 {
-    let length = run(text, place, Class::Digit);
+    let length = run(bytes, |b| b.is_ascii_digit());
     if length > LONGEST_NUMBER {
-        return Next::Refused(Refusal {
-            reason: WordRefusal::WordTooLong,
-            place,
-        });
+        return Err(WordRefusal::WordTooLong);
     }
-    let after = place + length;
-    let token = Token::Number(value(&text[place..after]));
-    Next::Word(Word { token, place }, after)
+    Ok((Token::Number(value(&bytes[..length])), length))
 }
 
-// The mark of two bytes at `place`.
-fn longer_mark(text: &[u8], place: usize) -> Option<Token>
-    requires { place < length text.now }
-    ensures is { (o : Found) → mark_or result 2 o ≡ first_of two_byte_marks (drop place text.now) o }
-    ensures kind { IfSome result (λ m. IsMark m × (place + 2 ≤ length text.now)) }
+// The mark of two bytes at the front.
+fn longer_mark(bytes: &[u8]) -> Option<Token>
+    ensures is { (o : Found) → mark_or result 2 o ≡ first_of two_byte_marks bytes.now o }
+    ensures kind { IfSome result (λ m. IsMark m × (2 ≤ length bytes.now)) }
 {
-    let next = place + 1;
-    if next < text.len() {
-        return two_byte_mark(text[place], text[next]);
+    match bytes {
+        [first, second, ..] => two_byte_mark(*first, *second),
+        _ => None,
     }
-    None
 }
 
-// The mark at `place`, the longest that begins there.
-fn read_mark(text: &[u8], place: usize) -> Next
-    requires { place < length text.now }
-    ensures is { next_in text.now result ≡ word_at place (drop place text.now) (mark_at (drop place text.now)) }
-    ensures advances { Advances place (length text.now) result }
+// The mark at the front, the longest that begins there.
+fn read_mark(bytes: &[u8]) -> Result<(Token, usize), WordRefusal>
+    requires { 0 < length bytes.now }
+    ensures is { (p : ℕ) → taken_at p bytes.now result ≡ word_at p bytes.now (mark_at bytes.now) }
+    ensures takes { TakesSome (length bytes.now) result }
 {
-    if let Some(token) = longer_mark(text, place) {
-        return Next::Word(Word { token, place }, place + 2);
+    if let Some(token) = longer_mark(bytes) {
+        return Ok((token, 2));
     }
-    match one_byte_mark(text[place]) {
-        Some(token) => Next::Word(Word { token, place }, place + 1),
-        None => Next::Refused(Refusal {
-            reason: WordRefusal::NoWord,
-            place,
-        }),
+    match one_byte_mark(bytes[0]) {
+        Some(token) => Ok((token, 1)),
+        None => Err(WordRefusal::NoWord),
     }
 }
 
-// The first word at or after the place `at`. To go on, ask again at the place that comes with it.
-pub fn next_word(text: &[u8], at: usize) -> Next
+// The longest word at the front.
+fn read_word(bytes: &[u8]) -> Result<(Token, usize), WordRefusal>
+    requires { 0 < length bytes.now }
+    ensures is { (p : ℕ) → taken_at p bytes.now result ≡ word_at p bytes.now (longest_at bytes.now) }
+    ensures takes { TakesSome (length bytes.now) result }
+{
+    match bytes[0] {
+        b if b.is_ascii_alphabetic() => read_name(bytes),
+        b if b.is_ascii_digit() => read_number(bytes),
+        _ => read_mark(bytes),
+    }
+}
+
+// The first word at or after the place `at`, and the place to go on from; nothing at the end of the text.
+pub fn next_word(text: &[u8], at: usize) -> Result<Option<(Word, usize)>, Refusal>
     ensures is { next_in text.now result ≡ next_of at (drop at text.now) }
     ensures advances { Advances at (length text.now) result }
 {
     if at >= text.len() {
-        return Next::End;
+        return Ok(None);
     }
-    let place = at + run(text, at, Class::Blank);
-    if place == text.len() {
-        return Next::End;
+    let place = at + run(&text[at..], |b| matches!(b, b' ' | b'\n'));
+    let bytes = &text[place..];
+    if bytes.is_empty() {
+        return Ok(None);
     }
-    let first = text[place];
-    if first.is_ascii_alphabetic() {
-        return read_name(text, place);
+    match read_word(bytes) {
+        Ok((token, taken)) => Ok(Some((Word { token, place }, place + taken))),
+        Err(reason) => Err(Refusal { reason, place }),
     }
-    if first.is_ascii_digit() {
-        return read_number(text, place);
+}
+
+// The words of a text, one after another. The first refusal is the last item.
+#[derive(Drop)]
+pub struct Words<'a> {
+    text: &'a [u8],
+    at: usize,
+}
+
+impl<'a> Words<'a> {
+    // Those of the whole text.
+    pub fn of(text: &'a [u8]) -> Self
+        ensures text { result.text.now ≡ text.now }
+        ensures at { result.at ≡ 0 }
+    {
+        Words { text, at: 0 }
     }
-    read_mark(text, place)
+}
+
+impl<'a> Iterator for Words<'a> {
+    type Item = Result<Word, Refusal>;
+
+    ghost next_gives = { λ s r t. (t.text ≡ s.text) × Gives s.text.now s.at r t.at };
+
+    ghost remaining = { λ s. at_most (length s.text.now - s.at) };
+
+    fn next(&mut self) -> Option<Result<Word, Refusal>> {
+        match next_word(self.text, self.at) {
+            Ok(next) => {
+                let (word, after) = next?;
+                self.at = after;
+                Some(Ok(word))
+            }
+            Err(refusal) => {
+                self.at = self.text.len();
+                Some(Err(refusal))
+            }
+        }
+    }
 }

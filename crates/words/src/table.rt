@@ -4,9 +4,9 @@ ghost use Rattle.std.specs.Prelude.{◌≡◌};
 ghost use Rattle.words.specs.Table.{CutInto};
 ghost use Rattle.words.specs.declared.word.Word.{Word as WordRecord};
 
-use crate::reader::next_word;
+use crate::reader::Words;
 use crate::refusal::{Refusal, WordRefusal};
-use crate::word::{Next, Word};
+use crate::word::Word;
 
 const LONGEST_TEXT: usize = 8192;
 
@@ -40,23 +40,17 @@ pub fn cut_words<S: WordSlot>(text: &[u8], table: &mut [S]) -> Result<usize, Ref
         });
     }
     let most = MOST_WORDS.min(table.len());
-    let mut at = 0;
     let mut count = 0;
-    'words: loop {
-        match next_word(text, at) {
-            Next::End => return Ok(count),
-            Next::Refused(refusal) => return Err(refusal),
-            Next::Word(word, next) => {
-                if count == most {
-                    return Err(Refusal {
-                        reason: WordRefusal::TooManyWords,
-                        place: word.place,
-                    });
-                }
-                table[count] = S::of_word(word);
-                count += 1;
-                at = next;
-            }
+    for word in Words::of(text) {
+        let word = word?;
+        if count == most {
+            return Err(Refusal {
+                reason: WordRefusal::TooManyWords,
+                place: word.place,
+            });
         }
+        table[count] = S::of_word(word);
+        count += 1;
     }
+    Ok(count)
 }

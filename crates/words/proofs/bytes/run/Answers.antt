@@ -1,22 +1,12 @@
-use Rattle.std.proofs.Common.{◌≡◌, ◌+◌, drop, sym, ap, arith}
-use Rattle.std.specs.List.{prefix_len}
-use Rattle.words.specs.Inner.{in_class}
-use Rattle.std.proofs.lemmas.List.Sums.{prefix_len-drop_yes, prefix_len-drop_no, prefix_len-drop_all}
+use Rattle.std.proofs.Common.{◌∙◌, rules, tests}
+use Rattle.std.proofs.lemmas.Iterator.{YieldsList-from_slice}
+use Rattle.std.proofs.lemmas.Iterator.Consumers.{count_from_yields_List}
+use Rattle.std.proofs.lemmas.Iterator.Search.{YieldsList-from_take_while}
+use Rattle.std.proofs.lemmas.List.Folds.{length-prefix_len}
 use Rattle.words.proofs.bytes.run.Goals as goal
 
-pub loop-n-preserved : goal.loop-n-preserved
-loop-n-preserved c =
-    let e = prefix_len-drop_yes (in_class c.args.class) c.args.text.now (c.args.from + c.loop-n.n) 0 (omega arith) (sym c.if-is_in.ensures) in
-    let a : (c.args.from + c.loop-n.n) + 1 ≡ c.args.from + (c.loop-n.n + 1) = omega arith in
-    let g = ap (λ i. prefix_len (in_class c.args.class) (drop i c.args.text.now)) a in
-    (omega (arith, e, g, c.loop-n.invariant.0), omega arith)
-
-pub returns-else-is_in : goal.returns-else-is_in
-returns-else-is_in c =
-    let e = prefix_len-drop_no (in_class c.args.class) c.args.text.now (c.args.from + c.loop-n.n) 0 (omega arith) (sym c.if-is_in.ensures) in
-    record { is = omega (arith, e, c.loop-n.invariant.0); within = c.loop-n.invariant.1 }
-
-pub returns-after-loop-n : goal.returns-after-loop-n
-returns-after-loop-n c =
-    let e = prefix_len-drop_all (in_class c.args.class) c.args.text.now (c.args.from + c.loop-n.n) (omega arith) in
-    record { is = omega (arith, e, c.loop-n.invariant.0); within = c.loop-n.invariant.1 }
+pub returns-clause-is : goal.returns-clause-is
+returns-clause-is g c = λ p h.
+    count_from_yields_List c.take_while.result _ c.count.ensures.ran
+    (YieldsList-from_take_while _ p (YieldsList-from_slice c.args.bytes.now (cc)) c.take_while.ensures.closure c.take_while.ensures.done (λ x b q k. (search (rules, tests), h x b (search (rules, tests)))))
+    ∙ length-prefix_len p c.args.bytes.now

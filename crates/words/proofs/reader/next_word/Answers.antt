@@ -1,45 +1,23 @@
-use Rattle.std.proofs.Common.{◌+◌, length, sym, ◌∙◌, arith}
-use Rattle.std.proofs.lemmas.List.{at_drop_all}
-use Rattle.words.specs.Words.{next_of}
-use Rattle.words.proofs.NextWord.{next_at_end, next_is_name, next_is_number, next_is_mark, advances_from_earlier}
+use Rattle.std.proofs.Common.{◌+◌, rules, ap, ◌∙◌, arith}
+use Rattle.std.specs.List.{prefix_len}
+use Rattle.words.specs.Spelling.{blank}
+use Rattle.words.proofs.NextWord.{next_at_end, word_to_next, refusal_to_next, part_to_end}
 use Rattle.words.proofs.reader.next_word.Goals as goal
 
-pub returns-then-at-text : goal.returns-then-at-text
-returns-then-at-text c = record { is = sym (at_drop_all (next_of c.args.at) c.args.text.now c.args.at c.if-at-text.true); advances = tt }
+pub returns-then-is_empty-clause-is : goal.returns-then-is_empty-clause-is
+returns-then-is_empty-clause-is c =
+    next_at_end c.args.text.now c.args.at c.run.result (c.run.ensures.is blank (search rules) ∙ ap (prefix_len blank) (part_to_end c.args.text.now c.args.at)) (search rules)
 
-pub returns-then-place-text : goal.returns-then-place-text
-returns-then-place-text c =
-    record { is = next_at_end c.args.text.now c.args.at c.run.result c.run.ensures.is (omega (arith, c.if-place-text.true)); advances = tt }
-
-pub returns-then-is_ascii_alphabetic : goal.returns-then-is_ascii_alphabetic
-returns-then-is_ascii_alphabetic c =
+pub returns-in-Ok-clause-is : goal.returns-in-Ok-clause-is
+returns-in-Ok-clause-is c =
     let t = c.args.text.now in
-    let at = c.args.at in
-    let n = c.run.result in
-    record {
-      is = c.read_name.ensures.is
-          ∙ next_is_name t at n c.run.ensures.is (omega (arith, c.run.ensures.within, c.if-place-text.false)) (sym c.if-is_ascii_alphabetic.ensures.value);
-      advances = advances_from_earlier at (at + n) (length t) c.read_name.result (omega arith) c.read_name.ensures.advances;
-    }
+    let place = c.args.at + c.run.result in
+    word_to_next t c.args.at c.run.result (c.run.ensures.is blank (search rules) ∙ ap (prefix_len blank) (part_to_end t c.args.at)) (search rules)
+    _ (part_to_end t place) c.in-Ok.token c.in-Ok.taken (c.in-Ok.ensures.is place)
 
-pub returns-then-is_ascii_digit : goal.returns-then-is_ascii_digit
-returns-then-is_ascii_digit c =
+pub returns-in-Err-clause-is : goal.returns-in-Err-clause-is
+returns-in-Err-clause-is c =
     let t = c.args.text.now in
-    let at = c.args.at in
-    let n = c.run.result in
-    record {
-      is = c.read_number.ensures.is
-          ∙ next_is_number t at n c.run.ensures.is (omega (arith, c.run.ensures.within, c.if-place-text.false)) (sym c.if-is_ascii_alphabetic.ensures.value) (sym c.if-is_ascii_digit.ensures.value);
-      advances = advances_from_earlier at (at + n) (length t) c.read_number.result (omega arith) c.read_number.ensures.advances;
-    }
-
-pub returns : goal.returns
-returns c =
-    let t = c.args.text.now in
-    let at = c.args.at in
-    let n = c.run.result in
-    record {
-      is = c.read_mark.ensures.is
-          ∙ next_is_mark t at n c.run.ensures.is (omega (arith, c.run.ensures.within, c.if-place-text.false)) (sym c.if-is_ascii_alphabetic.ensures.value) (sym c.if-is_ascii_digit.ensures.value);
-      advances = advances_from_earlier at (at + n) (length t) c.read_mark.result (omega arith) c.read_mark.ensures.advances;
-    }
+    let place = c.args.at + c.run.result in
+    refusal_to_next t c.args.at c.run.result (c.run.ensures.is blank (search rules) ∙ ap (prefix_len blank) (part_to_end t c.args.at)) (search rules)
+    _ (part_to_end t place) c.in-Err.reason (c.in-Err.ensures.is place)
