@@ -1,7 +1,7 @@
 -- Numbers as bytes with the low byte first, and lists of them.
-use Rattle.std.proofs.Common.{◌≡◌, ℕ, zero, suc, ◌+◌, ◌-◌, ◌*◌, ◌/◌, ◌%◌, ◌<◌, ◌≤◌, List, [], ◌∷◌, ◌++◌, map, length, get_or, take, drop, set, sym, refl, ap, ◌∙◌, add-one, arith}
+use Rattle.std.proofs.Common.{◌≡◌, ℕ, zero, suc, ◌+◌, ◌-◌, ◌*◌, ◌/◌, ◌%◌, ◌<◌, ◌≤◌, List, [], ◌∷◌, ◌++◌, map, length, get_or, take, drop, set, sym, refl, ap, ◌∙◌, ap₂, add-one, arith}
 use native.Mathlib.Nat.{div-div-eq-div-mul}
-use Rattle.std.proofs.lemmas.List.{append_assoc, at_drop_more, at_drop_all, drop-drop, drop_more, flat_map_more, set_at, take_more, length-take-le, length-drop, length-map, map-append}
+use Rattle.std.proofs.lemmas.List.{append_assoc, at_drop_more, at_drop_all, drop-drop, drop_more, flat_map_more, set_at, take_more, length-take-le, length-drop, length-map, map-append, take_rest}
 use Rattle.std.specs.Simd.{first_chunks}
 use Rattle.std.specs.List.{flat_map}
 use Rattle.code.specs.Files.{bytes_of, number_of, numbers}
@@ -53,11 +53,27 @@ word_at words bs i m x e l at h =
     let size : length (get_or words i []) ≡ 4 = ap length word ∙ length-take-le 4 (drop m bs) (simp length-drop (omega arith)) in
     h ∙ sym (number_of_4 (get_or words i []) size) ∙ ap number_of word
 
+pub length_numbers : (k : ℕ) (bs : List ℕ) → length (numbers k bs) ≡ k
+unfolding numbers
+length_numbers zero bs = refl
+length_numbers (suc k) bs = ap suc (length_numbers k (drop 8 bs))
+
 -- A list that is cut into eights writes the numbers one behind the other.
-pub numbers_of_chunks : (k : ℕ) (bs : List ℕ) → map number_of (first_chunks 8 k bs) ≡ numbers k bs
+numbers_of_chunks : (k : ℕ) (bs : List ℕ) → map number_of (first_chunks 8 k bs) ≡ numbers k bs
 unfolding numbers
 numbers_of_chunks zero bs = refl
 numbers_of_chunks (suc k) bs = ap (λ t. number_of (take 8 bs) ∷ t) (numbers_of_chunks k (drop 8 bs))
+
+pub numbers_read : (k m : ℕ) (bs xs xs' : List ℕ) (words : List (List ℕ)) → length bs ≡ m + 8 * k
+    → words ≡ first_chunks 8 (length (take (length bs - m) (drop m bs)) / 8) (take (length bs - m) (drop m bs))
+    → xs' ≡ map number_of words ++ drop (length words) xs → xs' ≡ numbers k (drop m bs) ++ drop k xs
+numbers_read k m bs xs xs' words long cut e =
+    let rest = take_rest bs m in
+    let count : length (drop m bs) / 8 ≡ k = simp length-drop (omega arith) in
+    let all : words ≡ first_chunks 8 k (drop m bs) = cut ∙ ap₂ (first_chunks 8) (ap (λ t. length t / 8) rest ∙ count) rest in
+    let read : map number_of words ≡ numbers k (drop m bs) = ap (map number_of) all ∙ numbers_of_chunks k (drop m bs) in
+    let size : length words ≡ k = sym (length-map words number_of) ∙ ap length read ∙ length_numbers k (drop m bs) in
+    e ∙ ap₂ (λ a n. a ++ drop n xs) read size
 
 pub bytes_of_4 : (x : ℕ) → (x % 256) ∷ (x / 256 % 256) ∷ (x / 65536 % 256) ∷ (x / 16777216 % 256) ∷ [] ≡ bytes_of 4 x
 unfolding bytes_of
@@ -102,11 +118,6 @@ joined_step at i xs front before after l h w =
     ∙ flat_map_more (bytes_of 8) front (take i xs) (get_or xs i 0) ∙ ap (λ t. front ++ flat_map (bytes_of 8) t) (sym (take_more xs i 0 l))
 
 -- One operand more is read.
-pub length_numbers : (k : ℕ) (bs : List ℕ) → length (numbers k bs) ≡ k
-unfolding numbers
-length_numbers zero bs = refl
-length_numbers (suc k) bs = ap suc (length_numbers k (drop 8 bs))
-
 pub numbers_step : (i v : ℕ) (words : List (List ℕ)) (xs : List ℕ) {before : List ℕ} → i < length words → i < length xs
     → before ≡ map number_of (take i words) ++ drop i xs → v ≡ number_of (get_or words i [])
     → set before i v ≡ map number_of (take (i + 1) words) ++ drop (i + 1) xs
