@@ -14,13 +14,16 @@ use Rattle.code.specs.WellFormed.{Lands, on_mark, on_later_here, on_later_halt, 
 use Rattle.code.proofs.Passing.{passes_to_well_formed}
 use Rattle.code.proofs.Places.{operation_at_inside, operation_at_past}
 
--- A checked value holds well-formed code.
-pub checked_to_well_formed : (c : Checked) → WellFormed (code_in c)
-checked_to_well_formed c = passes_to_well_formed (code_in c) (go (check (code_in c)) c.passes)
+-- Code whose verdict is a pass is well formed, and a checked value holds such code.
+pub passed_to_well_formed : (c : Code) → passed (check c) ≡ true → WellFormed c
+passed_to_well_formed c ok = passes_to_well_formed c (go (check c) ok)
   where
     go : (v : Verdict) → passed v ≡ true → v ≡ passes
     go passes e = refl
     go (refused k i) e = cc
+
+pub checked_to_well_formed : (c : Checked) → WellFormed (code_in c)
+checked_to_well_formed c = passed_to_well_formed (code_in c) c.passes
 
 -- A byte that is an operation's number converts to the operation.
 decodes_to_ok : (byte : ℕ) (o : Operation) (r : Result Operation UnknownOperation) → Decodes byte r → operation byte ≡ Some o → r ≡ Ok o
@@ -44,8 +47,7 @@ stands_to_inside os i o e = ⊎_elim (λ l. l) past (cases_lt i (length os))
     past : length os ≤ i → i < length os
     past l =
         let none = operation_at_past os i l in
-        let z : ◌≡◌ {A = ℕ} 0 1 = cc in
-        absurd (omega arith)
+        cc
 
 module _ (c : Code) (w : WellFormed c) where
   -- The operation that is known to stand at a place is sound there.

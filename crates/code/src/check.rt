@@ -190,6 +190,7 @@ fn check_operations(sizes: Sizes, operations: &[u8], operands: &[u64]) -> Result
 }
 
 // Checks code: the first n entries of both arrays. Code that passes is put into `place`, which else stays as it was.
+// The arrays and the place are the caller's: this crate keeps no memory of its own.
 pub fn check<'a>(
     place: &mut Checked<'a>,
     sizes: Sizes,

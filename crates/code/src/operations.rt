@@ -183,6 +183,7 @@ impl fmt::Display for Operation {
 }
 
 impl Operation {
+    #[tactic(auto, unfolding(crate::specs::Operations::operation))]
     pub fn number(self) -> u8
         ensures value { result ≡ number self }
         ensures decodes { operation result ≡ Some self }

@@ -11,6 +11,7 @@ use crate::sizes::Sizes;
 const HEADER: usize = 16;
 
 // Copies the bytes into the buffer, from `at` on.
+#[tactic(auto, using(std::proofs::lemmas::Slice::overwrites))]
 fn write(buffer: &mut [u8], at: usize, bytes: &[u8])
     requires { at + length bytes.now ≤ length buffer.old }
     ensures front { take (at + length bytes.now) buffer.new ≡ take at buffer.old ++ bytes.now }
