@@ -1,7 +1,8 @@
 -- Numbers as bytes with the low byte first, and lists of them.
-use Rattle.std.proofs.Common.{◌≡◌, ℕ, zero, suc, ◌+◌, ◌-◌, ◌*◌, ◌/◌, ◌%◌, ◌<◌, ◌≤◌, List, [], ◌∷◌, ◌++◌, length, get_or, take, drop, set, sym, refl, ap, ◌∙◌, add-one, arith}
+use Rattle.std.proofs.Common.{◌≡◌, ℕ, zero, suc, ◌+◌, ◌-◌, ◌*◌, ◌/◌, ◌%◌, ◌<◌, ◌≤◌, List, [], ◌∷◌, ◌++◌, map, length, get_or, take, drop, set, sym, refl, ap, ◌∙◌, ap₂, add-one, arith}
 use native.Mathlib.Nat.{div-div-eq-div-mul}
-use Rattle.std.proofs.lemmas.List.{append_assoc, at_drop_more, at_drop_all, drop-drop, drop_more, flat_map_more, set_at, take_more}
+use Rattle.std.proofs.lemmas.List.{append_assoc, at_drop_more, at_drop_all, drop-drop, drop_more, flat_map_more, set_at, take_more, length-take-le, length-drop, length-map, map-append, take_rest}
+use Rattle.std.specs.Simd.{first_chunks}
 use Rattle.std.specs.List.{flat_map}
 use Rattle.code.specs.Files.{bytes_of, number_of, numbers}
 
@@ -35,6 +36,44 @@ number_of_8 bs e =
       number_of_more bs 7 (omega arith),
       number_of_done bs 8 (omega arith),
     )
+
+-- Four bytes of a list that is cut into fours are the number that they write.
+chunk_at : (k i m : ℕ) (bs : List ℕ) → i < k → m ≡ 4 * i → get_or (first_chunks 4 k bs) i [] ≡ take 4 (drop m bs)
+chunk_at zero i m bs l e = absurd (omega arith)
+chunk_at (suc k) zero m bs l e = let z : m ≡ 0 = omega arith in ap (λ j. take 4 (drop j bs)) (sym z)
+chunk_at (suc k) (suc i) m bs l e =
+    let step : 4 + (m - 4) ≡ m = omega arith in
+    chunk_at k i (m - 4) (drop 4 bs) (omega arith) (omega arith) ∙ ap (take 4) (drop-drop (m - 4) 4 bs ∙ ap (λ j. drop j bs) step)
+
+pub word_at : (words : List (List ℕ)) (bs : List ℕ) (i m x : ℕ) → words ≡ first_chunks 4 (length bs / 4) bs → m + 4 ≤ length bs → m ≡ 4 * i
+    → x ≡ get_or (get_or words i []) 0 0 + get_or (get_or words i []) 1 0 * 256 + get_or (get_or words i []) 2 0 * 65536 + get_or (get_or words i []) 3 0 * 16777216
+    → x ≡ number_of (take 4 (drop m bs))
+word_at words bs i m x e l at h =
+    let word : get_or words i [] ≡ take 4 (drop m bs) = ap (λ ws. get_or ws i []) e ∙ chunk_at (length bs / 4) i m bs (omega arith) at in
+    let size : length (get_or words i []) ≡ 4 = ap length word ∙ length-take-le 4 (drop m bs) (simp length-drop (omega arith)) in
+    h ∙ sym (number_of_4 (get_or words i []) size) ∙ ap number_of word
+
+pub length_numbers : (k : ℕ) (bs : List ℕ) → length (numbers k bs) ≡ k
+unfolding numbers
+length_numbers zero bs = refl
+length_numbers (suc k) bs = ap suc (length_numbers k (drop 8 bs))
+
+-- A list that is cut into eights writes the numbers one behind the other.
+numbers_of_chunks : (k : ℕ) (bs : List ℕ) → map number_of (first_chunks 8 k bs) ≡ numbers k bs
+unfolding numbers
+numbers_of_chunks zero bs = refl
+numbers_of_chunks (suc k) bs = ap (λ t. number_of (take 8 bs) ∷ t) (numbers_of_chunks k (drop 8 bs))
+
+pub numbers_read : (k m : ℕ) (bs xs xs' : List ℕ) (words : List (List ℕ)) → length bs ≡ m + 8 * k
+    → words ≡ first_chunks 8 (length (take (length bs - m) (drop m bs)) / 8) (take (length bs - m) (drop m bs))
+    → xs' ≡ map number_of words ++ drop (length words) xs → xs' ≡ numbers k (drop m bs) ++ drop k xs
+numbers_read k m bs xs xs' words long cut e =
+    let rest = take_rest bs m in
+    let count : length (drop m bs) / 8 ≡ k = simp length-drop (omega arith) in
+    let all : words ≡ first_chunks 8 k (drop m bs) = cut ∙ ap₂ (first_chunks 8) (ap (λ t. length t / 8) rest ∙ count) rest in
+    let read : map number_of words ≡ numbers k (drop m bs) = ap (map number_of) all ∙ numbers_of_chunks k (drop m bs) in
+    let size : length words ≡ k = sym (length-map words number_of) ∙ ap length read ∙ length_numbers k (drop m bs) in
+    e ∙ ap₂ (λ a n. a ++ drop n xs) read size
 
 pub bytes_of_4 : (x : ℕ) → (x % 256) ∷ (x / 256 % 256) ∷ (x / 65536 % 256) ∷ (x / 16777216 % 256) ∷ [] ≡ bytes_of 4 x
 unfolding bytes_of
@@ -79,26 +118,14 @@ joined_step at i xs front before after l h w =
     ∙ flat_map_more (bytes_of 8) front (take i xs) (get_or xs i 0) ∙ ap (λ t. front ++ flat_map (bytes_of 8) t) (sym (take_more xs i 0 l))
 
 -- One operand more is read.
-pub length_numbers : (k : ℕ) (bs : List ℕ) → length (numbers k bs) ≡ k
-unfolding numbers
-length_numbers zero bs = refl
-length_numbers (suc k) bs = ap suc (length_numbers k (drop 8 bs))
-
-numbers_more : (k : ℕ) (bs : List ℕ) → numbers (suc k) bs ≡ numbers k bs ++ (number_of (take 8 (drop (8 * k) bs)) ∷ [])
-unfolding numbers
-numbers_more zero bs = refl
-numbers_more (suc k) bs =
-    let step : 8 + 8 * k ≡ 8 * suc k = omega arith in
-    ap (λ t. number_of (take 8 bs) ∷ t) (numbers_more k (drop 8 bs) ∙ ap (λ t. numbers k (drop 8 bs) ++ (number_of (take 8 t) ∷ [])) (drop-drop (8 * k) 8 bs ∙ ap (λ n. drop n bs) step))
-
-pub numbers_step : (i at v : ℕ) (bs xs : List ℕ) {before : List ℕ} → i < length xs
-    → before ≡ numbers i (drop at bs) ++ drop i xs → v ≡ number_of (take 8 (drop (at + 8 * i) bs))
-    → set before i v ≡ numbers (i + 1) (drop at bs) ++ drop (i + 1) xs
-numbers_step i at v bs xs {before} l h e =
-    let front = numbers i (drop at bs) in
-    let next : numbers (i + 1) (drop at bs) ≡ front ++ (v ∷ []) =
-    ap (λ n. numbers n (drop at bs)) (add-one i) ∙ numbers_more i (drop at bs)
-    ∙ ap (λ t. front ++ (number_of (take 8 t) ∷ [])) (drop-drop (8 * i) at bs) ∙ ap (λ w. front ++ (w ∷ [])) (sym e) in
-    ap (λ t. set t i v) (h ∙ ap (λ t. front ++ t) (drop_more xs i 0 l))
-    ∙ set_at front (get_or xs i 0) (drop (i + 1) xs) v i (length_numbers i (drop at bs))
+pub numbers_step : (i v : ℕ) (words : List (List ℕ)) (xs : List ℕ) {before : List ℕ} → i < length words → i < length xs
+    → before ≡ map number_of (take i words) ++ drop i xs → v ≡ number_of (get_or words i [])
+    → set before i v ≡ map number_of (take (i + 1) words) ++ drop (i + 1) xs
+numbers_step i v words xs {before} l m h e =
+    let front = map number_of (take i words) in
+    let size : length front ≡ i = length-map (take i words) number_of ∙ length-take-le i words (omega arith) in
+    let next : map number_of (take (i + 1) words) ≡ front ++ (v ∷ []) =
+    ap (map number_of) (take_more words i [] l) ∙ map-append number_of (take i words) (get_or words i [] ∷ []) ∙ ap (λ w. front ++ (w ∷ [])) (sym e) in
+    ap (λ t. set t i v) (h ∙ ap (λ t. front ++ t) (drop_more xs i 0 m))
+    ∙ set_at front (get_or xs i 0) (drop (i + 1) xs) v i size
     ∙ sym (append_assoc front (v ∷ []) (drop (i + 1) xs)) ∙ ap (λ t. t ++ drop (i + 1) xs) (sym next)

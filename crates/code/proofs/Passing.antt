@@ -17,10 +17,10 @@ use Rattle.code.proofs.Rulings.{KeepsRules, keeps_rules_to_goes_on, KeepsDepth, 
 use Rattle.code.proofs.Verdicts.{ruling_at, check_more, check_stop, check_done, check_bad_sizes, check_good_sizes}
 
 not_passes : {A : Type 0} (k : ℕ) (p : Option ℕ) → refused k p ≡ passes → A
-not_passes k p e = let z : ◌≡◌ {A = ℕ} 0 1 = cc in absurd (omega arith)
+not_passes k p e = cc
 
 -- The depth past a known operation.
-depth_at_suc : (os : List ℕ) (i : ℕ) (o : Operation) → operation_at os i ≡ Some o → depth_at os (suc i) ≡ depth_after o (depth_at os i)
+pub depth_at_suc : (os : List ℕ) (i : ℕ) (o : Operation) → operation_at os i ≡ Some o → depth_at os (suc i) ≡ depth_after o (depth_at os i)
 unfolding depth_at
 depth_at_suc os i o e = ap (λ p. depth_past p (depth_at os i)) e
 
@@ -96,18 +96,15 @@ module _ (c : Code) (ok : check c ≡ passes) where
 opens_to_mark_or_halt : (o : Operation) → opens (role o) ≡ true → (o ≡ Mark) ⊎ (o ≡ Halt)
 opens_to_mark_or_halt o = at_role (role o) refl
   where
-    clash : {A : Type 0} → false ≡ true → A
-    clash e = let z : ◌≡◌ {A = ℕ} 0 1 = cc in absurd (omega arith)
-
     at_role : (r : Role) → role o ≡ r → opens r ≡ true → (o ≡ Mark) ⊎ (o ≡ Halt)
     at_role End e h = inr (role_to_operation o Halt (ap sole e))
     at_role Step e h = inl (role_to_operation o Mark (ap sole e))
-    at_role Label e h = clash h
-    at_role Goto e h = clash h
-    at_role Branch e h = clash h
-    at_role Switch e h = clash h
-    at_role JumpTable e h = clash h
-    at_role Straight e h = clash h
+    at_role Label e h = cc
+    at_role Goto e h = cc
+    at_role Branch e h = cc
+    at_role Switch e h = cc
+    at_role JumpTable e h = cc
+    at_role Straight e h = cc
 
 opens_to_stands : (os : List ℕ) (o : Operation) → operation_at os 0 ≡ Some o → opens (role o) ≡ true
     → (operation_at os 0 ≡ Some Mark) ⊎ (operation_at os 0 ≡ Some Halt)
@@ -180,4 +177,4 @@ module _ (c : Code) (w : WellFormed c) where
 pub answer_to_well_formed : {X : Type 0} (r : Result X Refusal) (c : Code) → verdict_of r ≡ check c → Decides (is_ok r) (WellFormed c)
 answer_to_well_formed (Ok x) c e = (λ _. passes_to_well_formed c (sym e), λ _. refl)
 answer_to_well_formed (Err k) c e =
-    (λ h. let z : ◌≡◌ {A = ℕ} 0 1 = cc in absurd (omega arith), λ w. not_passes (number k) (told_at k) (e ∙ well_formed_to_passes c w))
+    (λ h. cc, λ w. not_passes (number k) (told_at k) (e ∙ well_formed_to_passes c w))

@@ -16,16 +16,13 @@ use Rattle.code.specs.Check.{Ruling, goes_on, breaks, ruling, operand_ok, depth_
 use Rattle.code.proofs.Places.{operation_at_drop, operation_to_number, role_at_to_operation_at}
 use Rattle.code.specs.WellFormed.{Names, Lands, on_mark, on_later_here, on_later_halt, CutOff, behind_halt, behind_jump, HasRows, Leads}
 
-clash : {A : Type 0} → false ≡ true → A
-clash e = let z : ◌≡◌ {A = ℕ} 0 1 = cc in absurd (omega arith)
-
 before : (k : ℕ) → suc k - 1 ≡ k
 before k = omega arith
 
 -- A test that passed: its condition holds, and what stands under it goes on.
 test_passed : (b : Bool) (r : Ruling) (k e : ℕ) → cond b r (breaks k) ≡ goes_on e → (b ≡ true) × (r ≡ goes_on e)
 test_passed true r k e h = (refl, h)
-test_passed false r k e h = let z : ◌≡◌ {A = ℕ} 0 1 = cc in absurd (omega arith)
+test_passed false r k e h = cc
 
 -- The operation keeps each rule, and leaves what it should.
 pub record KeepsRules (s : Sizes) (os : List ℕ) (i x d e : ℕ) (o : Operation) : Type 0 where
@@ -38,7 +35,7 @@ pub record KeepsRules (s : Sizes) (os : List ℕ) (i x d e : ℕ) (o : Operation
 module _ (s : Sizes) (os : List ℕ) (i x d : ℕ) where
   pub goes_on_to_keeps_rules : (e : ℕ) (p : Option Operation) → ruling s os i x d p ≡ goes_on e
       → (o : Operation) × (p ≡ Some o) × KeepsRules s os i x d e o
-  goes_on_to_keeps_rules e None h = let z : ◌≡◌ {A = ℕ} 0 1 = cc in absurd (omega arith)
+  goes_on_to_keeps_rules e None h = cc
   goes_on_to_keeps_rules e (Some o) h =
       let a = test_passed (operand_ok s (operand o) x) _ 23 e h in
       let b = test_passed (depth_ok s o d) _ 24 e a.1 in
@@ -92,15 +89,15 @@ module _ (os : List ℕ) (i x : ℕ) where
   may_land_to_lands = at_role (role_at os x) refl
     where
       at_role : (r : Option Role) → role_at os x ≡ r → may_land r (ltb i x) ≡ true → Lands os i x
-      at_role None e h = clash h
+      at_role None e h = cc
       at_role (Some End) e h = on_later_halt (ltb-true i x h) (role_at_to_operation_at os x End Halt e refl)
       at_role (Some Step) e h = on_mark (role_at_to_operation_at os x Step Mark e refl)
       at_role (Some Label) e h = on_later_here (ltb-true i x h) (role_at_to_operation_at os x Label Here e refl)
-      at_role (Some Goto) e h = clash h
-      at_role (Some Branch) e h = clash h
-      at_role (Some Switch) e h = clash h
-      at_role (Some JumpTable) e h = clash h
-      at_role (Some Straight) e h = clash h
+      at_role (Some Goto) e h = cc
+      at_role (Some Branch) e h = cc
+      at_role (Some Switch) e h = cc
+      at_role (Some JumpTable) e h = cc
+      at_role (Some Straight) e h = cc
 
   lands_to_may_land : Lands os i x → may_land (role_at os x) (ltb i x) ≡ true
   lands_to_may_land (on_mark e) = ap (λ p. may_land (option_map role p) (ltb i x)) e
@@ -112,30 +109,30 @@ is_jump_table_to_rows : (os : List ℕ) (x : ℕ) → is_jump_table (role_at os 
 is_jump_table_to_rows os x = at_role (role_at os x) refl
   where
     at_role : (r : Option Role) → role_at os x ≡ r → is_jump_table r ≡ true → operation_at os x ≡ Some Rows
-    at_role None e h = clash h
-    at_role (Some End) e h = clash h
-    at_role (Some Step) e h = clash h
-    at_role (Some Label) e h = clash h
-    at_role (Some Goto) e h = clash h
-    at_role (Some Branch) e h = clash h
-    at_role (Some Switch) e h = clash h
+    at_role None e h = cc
+    at_role (Some End) e h = cc
+    at_role (Some Step) e h = cc
+    at_role (Some Label) e h = cc
+    at_role (Some Goto) e h = cc
+    at_role (Some Branch) e h = cc
+    at_role (Some Switch) e h = cc
     at_role (Some JumpTable) e h = role_at_to_operation_at os x JumpTable Rows e refl
-    at_role (Some Straight) e h = clash h
+    at_role (Some Straight) e h = cc
 
 -- A HALT or a JUMP stands at k.
 closed_to_cut_off : (os : List ℕ) (k : ℕ) → closed (role_at os k) ≡ true → CutOff os (suc k)
 closed_to_cut_off os k = at_role (role_at os k) refl
   where
     at_role : (r : Option Role) → role_at os k ≡ r → closed r ≡ true → CutOff os (suc k)
-    at_role None e h = clash h
+    at_role None e h = cc
     at_role (Some End) e h = behind_halt (role_at_to_operation_at os k End Halt e refl)
-    at_role (Some Step) e h = clash h
-    at_role (Some Label) e h = clash h
+    at_role (Some Step) e h = cc
+    at_role (Some Label) e h = cc
     at_role (Some Goto) e h = behind_jump (role_at_to_operation_at os k Goto Jump e refl)
-    at_role (Some Branch) e h = clash h
-    at_role (Some Switch) e h = clash h
-    at_role (Some JumpTable) e h = clash h
-    at_role (Some Straight) e h = clash h
+    at_role (Some Branch) e h = cc
+    at_role (Some Switch) e h = cc
+    at_role (Some JumpTable) e h = cc
+    at_role (Some Straight) e h = cc
 
 cut_off_to_closed : (os : List ℕ) (i : ℕ) → CutOff os i → closed (role_at os (i - 1)) ≡ true
 cut_off_to_closed os i (behind_halt {k} e) = ap (λ j. closed (role_at os j)) (before k) ∙ ap (λ p. closed (option_map role p)) e
@@ -156,7 +153,7 @@ leading_jumps_to_jump (b ∷ bs) j l = first (eqb b 22) refl j l (leading_jumps_
 jumps_to_leading_jumps : (bs : List ℕ) (k : ℕ) → ((j : ℕ) → j < k → operation_at bs j ≡ Some Jump) → k ≤ leading_jumps bs
 unfolding operation_at
 jumps_to_leading_jumps bs zero h = omega arith
-jumps_to_leading_jumps [] (suc k) h = let e = h 0 (omega arith) in let z : ◌≡◌ {A = ℕ} 0 1 = cc in absurd (omega arith)
+jumps_to_leading_jumps [] (suc k) h = let e = h 0 (omega arith) in cc
 jumps_to_leading_jumps (b ∷ bs) (suc k) h =
     let first = eq-eqb b 22 (sym (operation_to_number b Jump (h 0 (omega arith)))) in
     let rest = jumps_to_leading_jumps bs k (λ j l. h (suc j) (omega arith)) in
@@ -182,7 +179,7 @@ module _ (os : List ℕ) (i x : ℕ) (inside : i < length os) where
   target_ok_to_leads JumpTable p q = (rows i p, last_ok_to_more JumpTable refl q)
     where
       rows : (i : ℕ) → place_ok os i JumpTable x ≡ true → HasRows os i x
-      rows zero p = clash p
+      rows zero p = cc
       rows (suc k) p =
           let h = and_parts (closed (role_at os (suc k - 1))) _ (and_parts (cond (eqb (suc k) 0) false true) _ p).1 in
           let long = leb-true x _ h.1 in

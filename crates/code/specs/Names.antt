@@ -1,9 +1,12 @@
--- The words that a reader of a report sees: the name of each operation, and the reason of each refusal.
-use Rattle.std.specs.Prelude.{ℕ, List, codes}
+-- The words that a reader of a report sees: the name of each operation, the reason of each refusal, and sizes in a line.
+use Rattle.std.specs.Prelude.{ℕ, List, ◌++◌, Some, None, Option, codes}
+use Rattle.std.specs.Fmt.{decimal}
 use Rattle.code.specs.declared.operations.Operation.{Operation}
 use Rattle.code.specs.declared.operations.Operation.TheVariants.{Halt, Mark, Const, Load, Store, Get, Put, Test, Round, Truth, Add, Sub, Mul, Div, Neg, Less, Same, More, Not, And, Or, Eqv, Jump, False, Table, Rows, Here, Take, TakeW, Post}
 use Rattle.code.specs.declared.refusals.Refusal.{Refusal}
 use Rattle.code.specs.declared.refusals.Refusal.TheVariants.{BadSizes, UnknownOperation, BadOperand, BadDepth, BadTarget, BadLast, BadLength, ShortBuffer}
+use Rattle.code.specs.declared.sizes.Sizes.{Sizes}
+use Rattle.code.specs.Answers.{number, told_at}
 
 abbrev pub name : Operation → List ℕ
 name Halt = codes "HALT"
@@ -46,3 +49,21 @@ reason (BadTarget i) = codes "jump, ROWS or place 0 against its rule"
 reason (BadLast i) = codes "last operation is neither HALT nor JUMP"
 reason BadLength = codes "file is not 16 + 9n bytes"
 reason ShortBuffer = codes "buffer shorter than the file"
+
+-- What an error says of a byte that is no operation's number.
+abbrev pub unknown_operation : ℕ → List ℕ
+unknown_operation byte = codes "no operation has number " ++ decimal byte
+
+-- What a refusal says: its number, the operation where there is one, and its reason.
+abbrev pub refusal_line : ℕ → Option ℕ → List ℕ → List ℕ
+refusal_line k None why = codes "refused " ++ (decimal k ++ (codes ": " ++ why))
+refusal_line k (Some place) why = codes "refused " ++ (decimal k ++ (codes " at operation " ++ (decimal place ++ (codes ": " ++ why))))
+
+abbrev pub refusal_text : Refusal → List ℕ
+refusal_text e = refusal_line (number e) (told_at e) (reason e)
+
+-- Sizes as a listing states them.
+abbrev pub sizes_text : Sizes → List ℕ
+sizes_text s =
+    codes "n " ++ (decimal s.operations ++ (codes ", named cells " ++ (decimal s.named
+    ++ (codes ", cells " ++ (decimal s.cells ++ (codes ", depth " ++ decimal s.depth))))))

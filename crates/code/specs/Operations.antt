@@ -1,11 +1,13 @@
 -- The thirty operations, a line each: number, role in the flow of control, operand, figures taken and left.
 -- A reader compares the table with docs/code.md; everything else about an operation is read off its line.
-use Rattle.std.specs.Prelude.{ℕ, List, [], ◌∷◌, map, Some, None, Option, slice_index_or}
+use Rattle.std.specs.Prelude.{◌≡◌, ℕ, List, [], ◌∷◌, map, Some, None, Option, Result, MatchResult, slice_index_or}
+use Rattle.std.specs.Result.{result_ok}
 use Rattle.code.specs.declared.operations.Operation.{Operation}
 use Rattle.code.specs.declared.operations.Operation.TheVariants.{Halt, Mark, Const, Load, Store, Get, Put, Test, Round, Truth, Add, Sub, Mul, Div, Neg, Less, Same, More, Not, And, Or, Eqv, Jump, False, Table, Rows, Here, Take, TakeW, Post}
 use Rattle.code.specs.declared.operations.Operand.{Operand}
 use Rattle.code.specs.declared.operations.Operand.TheVariants.{Unused, TextPlace, Constant, Cell, CellRange, Target, RowCount}
 use Rattle.code.specs.declared.operations.Role.{Role}
+use Rattle.code.specs.declared.operations.UnknownOperation.{UnknownOperation}
 use Rattle.code.specs.declared.operations.Role.TheVariants.{End, Step, Label, Goto, Branch, Switch, JumpTable, Straight}
 
 -- One line of the table.
@@ -74,3 +76,8 @@ all_operations =
 
 unfoldable pub operation : ℕ → Option Operation
 operation b = slice_index_or (map Some all_operations) b None
+
+-- The answer is the byte's operation, which has the byte for its number, or an error that names the byte.
+pub record Decodes (byte : ℕ) (r : Result Operation UnknownOperation) : Type 0 where
+  pub value : result_ok r ≡ operation byte
+  pub numbered : MatchResult r (λ o. number o ≡ byte) (λ e. e.0 ≡ byte)

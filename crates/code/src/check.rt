@@ -1,14 +1,14 @@
 // The check of code, rule by rule.
 ghost use Rattle.std.specs.Prelude.{◌≡◌, ℕ, ◌+◌, ◌<◌, ◌≤◌, length, Some, MatchResult};
 ghost use Rattle.code.specs.Answers.{ruling_of, told_at, verdict_of};
-ghost use Rattle.code.specs.Operations.{operation};
+ghost use Rattle.code.specs.Operations.{operand, role};
 ghost use Rattle.code.specs.Check.{check_from, closed, closes, depth_ok, is_jump_table, leading_jumps, last_ok, lent_ok, may_land, opens, operand_ok, place_ok, ruling, target_ok};
 ghost use Rattle.code.specs.CheckedCode.{Checks};
 ghost use Rattle.code.specs.Codes.{code_of, role_at};
 
 use crate::checked::Checked;
 use crate::descriptor::Descriptor;
-use crate::operations::{Operand, Operation, Role, decode};
+use crate::operations::{Operand, Operation, Role};
 use crate::refusals::Refusal;
 use crate::sizes::Sizes;
 
@@ -26,51 +26,13 @@ pub(crate) fn are_lent_sizes_ok(sizes: Sizes, operations: usize, operands: usize
         && count <= operands
 }
 
-// 23: the operand's rule.
-fn is_operand_ok(sizes: Sizes, operand: Operand, x: u64) -> bool
-    ensures { result ≡ operand_ok sizes operand x }
-{
-    match operand {
-        Operand::Unused => x == 0,
-        Operand::TextPlace => x <= 8_191,
-        Operand::Constant => x <= 999_999_999,
-        Operand::Cell => x < sizes.cells as u64,
-        Operand::CellRange => Descriptor::unpack(x).lies_below(sizes.cells),
-        Operand::Target => x < sizes.operations as u64,
-        Operand::RowCount => x >= 1,
-    }
-}
-
-// 24: the depth that the operation finds and leaves.
-fn is_depth_ok(sizes: Sizes, operation: Operation, depth: usize) -> bool
-    requires { depth ≤ 256 }
-    ensures { result ≡ depth_ok sizes operation depth }
-{
-    if depth < operation.taken() {
-        return false;
-    }
-    let after = depth - operation.taken() + operation.left();
-    if after > sizes.depth as usize {
-        return false;
-    }
-    match operation.role() {
-        Role::End | Role::Step | Role::Label | Role::JumpTable => depth == 0,
-        Role::Goto | Role::Branch | Role::Switch => after == 0,
-        Role::Straight => true,
-    }
-}
-
 // What the operation at a place does to the flow of control.
 fn role_at(operations: &[u8], place: u64) -> Option<Role>
     ensures { result ≡ role_at operations.now place }
 {
-    if place >= operations.len() as u64 {
-        return None;
-    }
-    match decode(operations[place as usize]) {
-        Some(operation) => Some(operation.role()),
-        None => None,
-    }
+    let byte = operations.get(place as usize)?;
+    let operation = Operation::try_from(*byte).ok()?;
+    Some(operation.role())
 }
 
 // Whether a jump may go to such an operation, which may lie further on.
@@ -87,97 +49,121 @@ fn may_land(role: Option<Role>, further: bool) -> bool
 fn is_jump_table(role: Option<Role>) -> bool
     ensures { result ≡ is_jump_table role }
 {
-    match role {
-        Some(Role::JumpTable) => true,
-        _ => false,
-    }
+    matches!(role, Some(Role::JumpTable))
 }
 
 // Whether control never goes on from such an operation to the next.
 fn is_closed(role: Option<Role>) -> bool
     ensures { result ≡ closed role }
 {
-    match role {
-        Some(Role::End | Role::Goto) => true,
-        _ => false,
-    }
+    matches!(role, Some(Role::End | Role::Goto))
 }
 
 // How many JUMPs the bytes begin with.
 fn leading_jumps(bytes: &[u8]) -> usize
     ensures { result ≡ leading_jumps bytes.now }
 {
-    for (k, byte) in bytes.iter().enumerate() {
-        if *byte != Operation::Jump as u8 {
-            return k;
-        }
-    }
-    bytes.len()
+    bytes
+        .iter()
+        .take_while(|byte| **byte == Operation::Jump as u8)
+        .count()
 }
 
-// 25, where the operation leads.
-fn is_target_ok(operations: &[u8], place: usize, role: Role, x: u64) -> bool
-    requires { place < length operations.now }
-    ensures { result ≡ target_ok operations.now place role x }
-{
-    let here = place as u64;
-    match role {
-        Role::Goto | Role::Branch => may_land(role_at(operations, x), here < x),
-        Role::Switch => here < x && is_jump_table(role_at(operations, x)),
-        Role::JumpTable => {
-            is_closed(role_at(operations, here.saturating_sub(1)))
-                && x <= leading_jumps(&operations[place + 1..]) as u64
-        }
-        Role::End | Role::Step | Role::Label | Role::Straight => true,
-    }
-}
-
-// 25, also at place 0.
-fn is_place_ok(operations: &[u8], place: usize, role: Role, x: u64) -> bool
-    requires { place < length operations.now }
-    ensures { result ≡ place_ok operations.now place role x }
-{
-    let opens = match role {
-        Role::End | Role::Step => true,
-        _ => place > 0,
-    };
-    opens && is_target_ok(operations, place, role, x)
-}
-
-// 26: the last operation.
-fn is_last_ok(operations: &[u8], place: usize, role: Role) -> bool
-    requires { place < length operations.now }
-    ensures { result ≡ last_ok operations.now place role }
-{
-    place + 1 < operations.len() || is_closed(Some(role))
-}
-
-// The figures on the stack after the operation at `place`, which finds `depth`, or the first rule that it breaks.
-fn judge(
+// An operation under check: the sizes and the operations of its code, its place there, and its operand.
+#[derive(Clone, Copy)]
+struct Site<'a> {
     sizes: Sizes,
-    operations: &[u8],
+    operations: &'a [u8],
     place: usize,
-    byte: u8,
-    x: u64,
-    depth: usize,
-) -> Result<usize, Refusal>
-    requires { (place < length operations.now) × (depth ≤ 256) }
-    ensures ruling { ruling_of result ≡ ruling sizes operations.now place x depth (operation byte) }
-    ensures at { MatchResult result (λ d. d ≤ sizes.depth) (λ e. told_at e ≡ Some place) }
-{
-    let Some(operation) = decode(byte) else {
-        return Err(Refusal::UnknownOperation(place));
-    };
-    if !is_operand_ok(sizes, operation.operand(), x) {
-        Err(Refusal::BadOperand(place))
-    } else if !is_depth_ok(sizes, operation, depth) {
-        Err(Refusal::BadDepth(place))
-    } else if !is_place_ok(operations, place, operation.role(), x) {
-        Err(Refusal::BadTarget(place))
-    } else if !is_last_ok(operations, place, operation.role()) {
-        Err(Refusal::BadLast(place))
-    } else {
-        Ok(depth - operation.taken() + operation.left())
+    operation: Operation,
+    operand: u64,
+    ghost inside: { place < length operations.now },
+}
+
+impl Site<'_> {
+    // 23: the operand's rule.
+    fn is_operand_ok(&self) -> bool
+        ensures { result ≡ operand_ok self.now.sizes (operand self.now.operation) self.now.operand }
+    {
+        let x = self.operand;
+        match self.operation.operand() {
+            Operand::Unused => x == 0,
+            Operand::TextPlace => x <= 8_191,
+            Operand::Constant => x <= 999_999_999,
+            Operand::Cell => x < self.sizes.cells as u64,
+            Operand::CellRange => Descriptor::unpack(x).lies_below(self.sizes.cells),
+            Operand::Target => x < self.sizes.operations as u64,
+            Operand::RowCount => x >= 1,
+        }
+    }
+
+    // 24: the depth that the operation finds and leaves.
+    fn is_depth_ok(&self, depth: usize) -> bool
+        requires { depth ≤ 256 }
+        ensures { result ≡ depth_ok self.now.sizes self.now.operation depth }
+    {
+        if depth < self.operation.taken() {
+            return false;
+        }
+        let after = depth - self.operation.taken() + self.operation.left();
+        if after > self.sizes.depth as usize {
+            return false;
+        }
+        match self.operation.role() {
+            Role::End | Role::Step | Role::Label | Role::JumpTable => depth == 0,
+            Role::Goto | Role::Branch | Role::Switch => after == 0,
+            Role::Straight => true,
+        }
+    }
+
+    // 25, where the operation leads.
+    fn is_target_ok(&self) -> bool
+        ensures { result ≡ target_ok self.now.operations.now self.now.place (role self.now.operation) self.now.operand }
+    {
+        let (operations, here, x) = (self.operations, self.place as u64, self.operand);
+        match self.operation.role() {
+            Role::Goto | Role::Branch => may_land(role_at(operations, x), here < x),
+            Role::Switch => here < x && is_jump_table(role_at(operations, x)),
+            Role::JumpTable => {
+                is_closed(role_at(operations, here.saturating_sub(1)))
+                    && x <= leading_jumps(&operations[self.place + 1..]) as u64
+            }
+            Role::End | Role::Step | Role::Label | Role::Straight => true,
+        }
+    }
+
+    // 25, also at place 0.
+    fn is_place_ok(&self) -> bool
+        ensures { result ≡ place_ok self.now.operations.now self.now.place (role self.now.operation) self.now.operand }
+    {
+        let opens = matches!(self.operation.role(), Role::End | Role::Step);
+        (opens || self.place > 0) && self.is_target_ok()
+    }
+
+    // 26: the last operation.
+    fn is_last_ok(&self) -> bool
+        ensures { result ≡ last_ok self.now.operations.now self.now.place (role self.now.operation) }
+    {
+        self.place + 1 < self.operations.len() || is_closed(Some(self.operation.role()))
+    }
+
+    // The figures on the stack after the operation, which finds `depth`, or the first rule that it breaks.
+    fn judge(&self, depth: usize) -> Result<usize, Refusal>
+        requires { depth ≤ 256 }
+        ensures ruling { ruling_of result ≡ ruling self.now.sizes self.now.operations.now self.now.place self.now.operand depth (Some self.now.operation) }
+        ensures at { MatchResult result (λ d. d ≤ self.now.sizes.depth) (λ e. told_at e ≡ Some self.now.place) }
+    {
+        if !self.is_operand_ok() {
+            Err(Refusal::BadOperand(self.place))
+        } else if !self.is_depth_ok(depth) {
+            Err(Refusal::BadDepth(self.place))
+        } else if !self.is_place_ok() {
+            Err(Refusal::BadTarget(self.place))
+        } else if !self.is_last_ok() {
+            Err(Refusal::BadLast(self.place))
+        } else {
+            Ok(depth - self.operation.taken() + self.operation.left())
+        }
     }
 }
 
@@ -187,13 +173,24 @@ fn check_operations(sizes: Sizes, operations: &[u8], operands: &[u64]) -> Result
     ensures { verdict_of result ≡ check_from (record { sizes = sizes; operations = operations.now; operands = operands.now }) operations.now 0 0 }
 {
     let mut depth = 0;
-    for (i, byte) in operations.iter().enumerate() {
-        depth = judge(sizes, operations, i, *byte, operands[i], depth)?;
+    for (place, byte) in operations.iter().enumerate() {
+        let Ok(operation) = Operation::try_from(*byte) else {
+            return Err(Refusal::UnknownOperation(place));
+        };
+        let site = Site {
+            sizes,
+            operations,
+            place,
+            operation,
+            operand: operands[place],
+        };
+        depth = site.judge(depth)?;
     }
     Ok(())
 }
 
 // Checks code: the first n entries of both arrays. Code that passes is put into `place`, which else stays as it was.
+// The arrays and the place are the caller's: this crate keeps no memory of its own.
 pub fn check<'a>(
     place: &mut Checked<'a>,
     sizes: Sizes,

@@ -11,7 +11,7 @@ pub struct Descriptor {
 }
 
 impl Descriptor {
-    // The three parts of an operand.
+    // The three parts of an operand. Named `unpack`, and `pack` back, since each clause `undone` speaks of the other.
     pub fn unpack(operand: u64) -> Descriptor
         ensures value { result ≡ unpacked operand }
         ensures undone { packed result ≡ Some operand }

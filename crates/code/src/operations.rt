@@ -1,7 +1,11 @@
 // The operations of the stack machine.
-ghost use Rattle.std.specs.Prelude.{◌≡◌, IfSome, Some};
-ghost use Rattle.code.specs.Names.{name};
-ghost use Rattle.code.specs.Operations.{operation, number, operand, role, taken, left};
+ghost use Rattle.std.specs.Prelude.{◌≡◌, Some};
+ghost use Rattle.std.specs.Fmt.{padded};
+ghost use Rattle.code.specs.Names.{name, unknown_operation};
+ghost use Rattle.code.specs.Operations.{Decodes, operation, number, operand, role, taken, left};
+
+use std::error::Error;
+use std::fmt;
 
 // An operation: its number, its operand, the figures that it takes from the stack and leaves there, and its effect.
 // Of two figures that are taken, the left operand lies lower.
@@ -109,53 +113,77 @@ pub enum Role {
     Straight,
 }
 
-// The operations in the order of their numbers.
-static OPERATIONS: [Operation; 30] = [
-    Operation::Halt,
-    Operation::Mark,
-    Operation::Const,
-    Operation::Load,
-    Operation::Store,
-    Operation::Get,
-    Operation::Put,
-    Operation::Test,
-    Operation::Round,
-    Operation::Truth,
-    Operation::Add,
-    Operation::Sub,
-    Operation::Mul,
-    Operation::Div,
-    Operation::Neg,
-    Operation::Less,
-    Operation::Same,
-    Operation::More,
-    Operation::Not,
-    Operation::And,
-    Operation::Or,
-    Operation::Eqv,
-    Operation::Jump,
-    Operation::False,
-    Operation::Table,
-    Operation::Rows,
-    Operation::Here,
-    Operation::Take,
-    Operation::TakeW,
-    Operation::Post,
-];
+// A byte that is no operation's number.
+#[derive(Clone, Copy, PartialEq, Debug)]
+pub struct UnknownOperation(pub u8);
+
+impl fmt::Display for UnknownOperation {
+    ghost output = { λ e. Some (unknown_operation e.0) };
+
+    fn fmt<W: fmt::Write>(&self, f: &mut fmt::Formatter<W>) -> fmt::Result {
+        write!(f, "no operation has number {}", self.0)
+    }
+}
+
+impl Error for UnknownOperation {}
 
 // The operation that the byte is the number of.
-pub fn decode(byte: u8) -> Option<Operation>
-    ensures value { result ≡ operation byte }
-    ensures numbered { IfSome result (λ o. number o ≡ byte) }
-{
-    if byte < 30 {
-        Some(OPERATIONS[byte as usize])
-    } else {
-        None
+impl TryFrom<u8> for Operation {
+    type Error = UnknownOperation;
+
+    ghost try_from_gives = { Decodes };
+
+    #[tactic(auto, unfolding(crate::specs::Operations::operation))]
+    fn try_from(byte: u8) -> Result<Operation, UnknownOperation> {
+        match byte {
+            0 => Ok(Operation::Halt),
+            1 => Ok(Operation::Mark),
+            2 => Ok(Operation::Const),
+            3 => Ok(Operation::Load),
+            4 => Ok(Operation::Store),
+            5 => Ok(Operation::Get),
+            6 => Ok(Operation::Put),
+            7 => Ok(Operation::Test),
+            8 => Ok(Operation::Round),
+            9 => Ok(Operation::Truth),
+            10 => Ok(Operation::Add),
+            11 => Ok(Operation::Sub),
+            12 => Ok(Operation::Mul),
+            13 => Ok(Operation::Div),
+            14 => Ok(Operation::Neg),
+            15 => Ok(Operation::Less),
+            16 => Ok(Operation::Same),
+            17 => Ok(Operation::More),
+            18 => Ok(Operation::Not),
+            19 => Ok(Operation::And),
+            20 => Ok(Operation::Or),
+            21 => Ok(Operation::Eqv),
+            22 => Ok(Operation::Jump),
+            23 => Ok(Operation::False),
+            24 => Ok(Operation::Table),
+            25 => Ok(Operation::Rows),
+            26 => Ok(Operation::Here),
+            27 => Ok(Operation::Take),
+            28 => Ok(Operation::TakeW),
+            29 => Ok(Operation::Post),
+            _ => Err(UnknownOperation(byte)),
+        }
+    }
+}
+
+// Its name in a listing.
+impl fmt::Display for Operation {
+    ghost output = { λ o. Some (name o) };
+
+    ghost styled_output = { λ o spec. Some (padded spec (name o)) };
+
+    fn fmt<W: fmt::Write>(&self, f: &mut fmt::Formatter<W>) -> fmt::Result {
+        f.pad(self.name())
     }
 }
 
 impl Operation {
+    #[tactic(auto, unfolding(crate::specs::Operations::operation))]
     pub fn number(self) -> u8
         ensures value { result ≡ number self }
         ensures decodes { operation result ≡ Some self }

@@ -1,7 +1,10 @@
 // Why a call on code or on a stored file is refused.
-ghost use Rattle.std.specs.Prelude.{◌≡◌};
+ghost use Rattle.std.specs.Prelude.{◌≡◌, Some};
 ghost use Rattle.code.specs.Answers.{number, told_at};
-ghost use Rattle.code.specs.Names.{reason};
+ghost use Rattle.code.specs.Names.{reason, refusal_text};
+
+use std::error::Error;
+use std::fmt;
 
 #[derive(Clone, Copy, PartialEq, Debug)]
 pub enum Refusal {
@@ -41,11 +44,11 @@ impl Refusal {
     {
         match self {
             Refusal::BadSizes | Refusal::BadLength | Refusal::ShortBuffer => None,
-            Refusal::UnknownOperation(i) => Some(i),
-            Refusal::BadOperand(i) => Some(i),
-            Refusal::BadDepth(i) => Some(i),
-            Refusal::BadTarget(i) => Some(i),
-            Refusal::BadLast(i) => Some(i),
+            Refusal::UnknownOperation(place)
+            | Refusal::BadOperand(place)
+            | Refusal::BadDepth(place)
+            | Refusal::BadTarget(place)
+            | Refusal::BadLast(place) => Some(place),
         }
     }
 
@@ -65,3 +68,18 @@ impl Refusal {
         }
     }
 }
+
+// One line: the number, the operation where there is one, and the reason.
+impl fmt::Display for Refusal {
+    ghost output = { λ e. Some (refusal_text e) };
+
+    fn fmt<W: fmt::Write>(&self, f: &mut fmt::Formatter<W>) -> fmt::Result {
+        let (number, reason) = (self.number(), self.reason());
+        match self.operation() {
+            Some(place) => write!(f, "refused {number} at operation {place}: {reason}"),
+            None => write!(f, "refused {number}: {reason}"),
+        }
+    }
+}
+
+impl Error for Refusal {}

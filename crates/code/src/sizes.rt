@@ -1,4 +1,8 @@
 // The sizes that code states of itself.
+ghost use Rattle.std.specs.Prelude.{Some};
+ghost use Rattle.code.specs.Names.{sizes_text};
+
+use std::fmt;
 
 #[derive(Clone, Copy, PartialEq, Debug)]
 pub struct Sizes {
@@ -10,4 +14,13 @@ pub struct Sizes {
     pub cells: u32,
     // D: figures that may lie on the operand stack at once, at most 256
     pub depth: u32,
+}
+
+impl fmt::Display for Sizes {
+    ghost output = { λ s. Some (sizes_text s) };
+
+    fn fmt<W: fmt::Write>(&self, f: &mut fmt::Formatter<W>) -> fmt::Result {
+        let (n, v, m, d) = (self.operations, self.named, self.cells, self.depth);
+        write!(f, "n {n}, named cells {v}, cells {m}, depth {d}")
+    }
 }

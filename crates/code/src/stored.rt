@@ -1,8 +1,8 @@
 // The stored form of code: n, v, m and D in four bytes each, the operations, the operands in eight bytes each,
 // every number with its low byte first.
-ghost use Rattle.std.specs.Prelude.{◌≡◌, ℕ, ◌+◌, ◌*◌, ◌<◌, ◌≤◌, ◌++◌, length, take, drop, IfOk};
+ghost use Rattle.std.specs.Prelude.{◌≡◌, ℕ, ◌+◌, ◌*◌, ◌<◌, ◌≤◌, ◌++◌, length, map, take, drop, IfOk};
 ghost use Rattle.std.specs.List.{flat_map};
-ghost use Rattle.code.specs.Files.{Reloads, Restores, answer_of, bytes_of, file, file_length, header, load as loading, number_of, numbers, sizes_in, store as storing};
+ghost use Rattle.code.specs.Files.{Reloads, Restores, answer_of, bytes_of, file, file_length, header, load as loading, number_of, sizes_in, store as storing};
 
 use crate::check::are_lent_sizes_ok;
 use crate::refusals::Refusal;
@@ -11,6 +11,7 @@ use crate::sizes::Sizes;
 const HEADER: usize = 16;
 
 // Copies the bytes into the buffer, from `at` on.
+#[tactic(auto, using(std::proofs::lemmas::Slice::overwrites))]
 fn write(buffer: &mut [u8], at: usize, bytes: &[u8])
     requires { at + length bytes.now ≤ length buffer.old }
     ensures front { take (at + length bytes.now) buffer.new ≡ take at buffer.old ++ bytes.now }
@@ -19,58 +20,25 @@ fn write(buffer: &mut [u8], at: usize, bytes: &[u8])
     buffer[at..at + bytes.len()].copy_from_slice(bytes);
 }
 
-fn write_u32(buffer: &mut [u8], at: usize, x: u32)
-    requires { at + 4 ≤ length buffer.old }
-    ensures front { take (at + 4) buffer.new ≡ take at buffer.old ++ bytes_of 4 x }
-    ensures rest { drop (at + 4) buffer.new ≡ drop (at + 4) buffer.old }
-{
-    write(buffer, at, &x.to_le_bytes());
-}
-
-fn write_u64(buffer: &mut [u8], at: usize, x: u64)
-    requires { at + 8 ≤ length buffer.old }
-    ensures front { take (at + 8) buffer.new ≡ take at buffer.old ++ bytes_of 8 x }
-    ensures rest { drop (at + 8) buffer.new ≡ drop (at + 8) buffer.old }
-{
-    write(buffer, at, &x.to_le_bytes());
-}
-
-fn read_u32(bytes: &[u8], at: usize) -> u32
-    requires { at + 4 ≤ length bytes.now }
-    ensures { result ≡ number_of (take 4 (drop at bytes.now)) }
-{
-    let mut word = [0; 4];
-    word.copy_from_slice(&bytes[at..at + 4]);
-    u32::from_le_bytes(word)
-}
-
-fn read_u64(bytes: &[u8], at: usize) -> u64
-    requires { at + 8 ≤ length bytes.now }
-    ensures { result ≡ number_of (take 8 (drop at bytes.now)) }
-{
-    let mut word = [0; 8];
-    word.copy_from_slice(&bytes[at..at + 8]);
-    u64::from_le_bytes(word)
-}
-
 fn write_header(buffer: &mut [u8], sizes: Sizes)
     requires { 16 ≤ length buffer.old }
     ensures front { take 16 buffer.new ≡ header sizes }
     ensures rest { drop 16 buffer.new ≡ drop 16 buffer.old }
 {
-    write_u32(buffer, 0, sizes.operations);
-    write_u32(buffer, 4, sizes.named);
-    write_u32(buffer, 8, sizes.cells);
-    write_u32(buffer, 12, sizes.depth);
+    write(buffer, 0, &sizes.operations.to_le_bytes());
+    write(buffer, 4, &sizes.named.to_le_bytes());
+    write(buffer, 8, &sizes.cells.to_le_bytes());
+    write(buffer, 12, &sizes.depth.to_le_bytes());
 }
 
+// The words are counted off, since nothing is known of what a buffer holds after a walk over its `as_chunks_mut`.
 fn write_operands(buffer: &mut [u8], at: usize, operands: &[u64])
     requires { at + 8 * length operands.now ≤ length buffer.old }
     ensures front { take (at + 8 * length operands.now) buffer.new ≡ take at buffer.old ++ flat_map (bytes_of 8) operands.now }
     ensures rest { drop (at + 8 * length operands.now) buffer.new ≡ drop (at + 8 * length operands.now) buffer.old }
 {
     for (i, operand) in operands.iter().enumerate() {
-        write_u64(buffer, at + 8 * i, *operand);
+        write(buffer, at + 8 * i, &operand.to_le_bytes());
     }
 }
 
@@ -78,20 +46,22 @@ fn read_sizes(bytes: &[u8]) -> Sizes
     requires { 16 ≤ length bytes.now }
     ensures { result ≡ sizes_in bytes.now }
 {
+    let (words, _) = bytes.as_chunks::<4>();
     Sizes {
-        operations: read_u32(bytes, 0),
-        named: read_u32(bytes, 4),
-        cells: read_u32(bytes, 8),
-        depth: read_u32(bytes, 12),
+        operations: u32::from_le_bytes(words[0]),
+        named: u32::from_le_bytes(words[1]),
+        cells: u32::from_le_bytes(words[2]),
+        depth: u32::from_le_bytes(words[3]),
     }
 }
 
-fn read_operands(bytes: &[u8], at: usize, count: usize, operands: &mut [u64])
-    requires { (at + 8 * count ≤ length bytes.now) × (count ≤ length operands.old) }
-    ensures { operands.new ≡ numbers count (drop at bytes.now) ++ drop count operands.old }
+// Reads the words into the front of the array, by place: nothing is known of what it holds after a walk by `iter_mut().zip(..)`.
+fn read_operands(words: &[[u8; 8]], operands: &mut [u64])
+    requires { length words.now ≤ length operands.old }
+    ensures { operands.new ≡ map number_of words.now ++ drop (length words.now) operands.old }
 {
-    for i in 0..count {
-        operands[i] = read_u64(bytes, at + 8 * i);
+    for (place, word) in words.iter().enumerate() {
+        operands[place] = u64::from_le_bytes(*word);
     }
 }
 
@@ -138,6 +108,7 @@ pub fn load(bytes: &[u8], operations: &mut [u8], operands: &mut [u64]) -> Result
         return Err(Refusal::BadSizes);
     }
     write(operations, 0, &bytes[HEADER..HEADER + count]);
-    read_operands(bytes, HEADER + count, count, operands);
+    let (words, _) = bytes[HEADER + count..].as_chunks::<8>();
+    read_operands(words, operands);
     Ok(sizes)
 }

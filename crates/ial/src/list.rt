@@ -6,7 +6,7 @@ use crate::loaded::Loaded;
 use code::check::check;
 use code::checked::Checked;
 use code::descriptor::Descriptor;
-use code::operations::{Operand, Operation, decode};
+use code::operations::{Operand, Operation};
 use code::refusals::Refusal;
 use std::io;
 
@@ -37,9 +37,9 @@ fn refusal_of(loaded: &Loaded) -> Option<Refusal> {
 }
 
 fn print_line(rt: &HostRuntime, place: usize, byte: u8, operand: u64) -> io::Result<()> {
-    match decode(byte) {
-        Some(operation) => print_operation(rt, place, operation, operand),
-        None => println!(rt; "{place:>6}  byte {byte}, operand {operand}"),
+    match Operation::try_from(byte) {
+        Ok(operation) => print_operation(rt, place, operation, operand),
+        Err(_) => println!(rt; "{place:>6}  byte {byte}, operand {operand}"),
     }
 }
 

@@ -1,7 +1,6 @@
 // What an operation does, in the form in which the machine carries it out.
 
-ghost use Rattle.std.specs.Prelude.{◌≡◌, ◌<◌};
-ghost use Rattle.code.specs.Operations.{number};
+ghost use Rattle.std.specs.Prelude.{◌≡◌};
 ghost use Rattle.machine.specs.Instructions.{instruction};
 
 use code::operations::Operation;
@@ -72,46 +71,6 @@ pub enum Instruction {
     // takes a figure from the roll, which is rounded or as it is
     Take(bool),
     Post,
-}
-
-// The operation that a byte is the number of.
-pub(crate) fn decoded(byte: u8) -> Operation
-    requires { byte < 30 }
-    ensures { number result ≡ byte }
-{
-    match byte {
-        0 => Operation::Halt,
-        1 => Operation::Mark,
-        2 => Operation::Const,
-        3 => Operation::Load,
-        4 => Operation::Store,
-        5 => Operation::Get,
-        6 => Operation::Put,
-        7 => Operation::Test,
-        8 => Operation::Round,
-        9 => Operation::Truth,
-        10 => Operation::Add,
-        11 => Operation::Sub,
-        12 => Operation::Mul,
-        13 => Operation::Div,
-        14 => Operation::Neg,
-        15 => Operation::Less,
-        16 => Operation::Same,
-        17 => Operation::More,
-        18 => Operation::Not,
-        19 => Operation::And,
-        20 => Operation::Or,
-        21 => Operation::Eqv,
-        22 => Operation::Jump,
-        23 => Operation::False,
-        24 => Operation::Table,
-        25 => Operation::Rows,
-        26 => Operation::Here,
-        27 => Operation::Take,
-        28 => Operation::TakeW,
-        29 => Operation::Post,
-        _ => unreachable(),
-    }
 }
 
 // What an operation does.

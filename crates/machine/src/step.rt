@@ -12,7 +12,7 @@ use crate::branch::go;
 use crate::calculate::calculate;
 use crate::fault::RunFault;
 use crate::frame::Frame;
-use crate::instruction::{Instruction, decoded, instruction_of};
+use crate::instruction::{Instruction, instruction_of};
 use crate::operands::figure_over;
 use crate::transfer::{post, take_into, transfer_figure};
 use code::checked::Checked;
@@ -23,7 +23,7 @@ pub(crate) fn operation_at(code: &Checked<'_>, place: usize) -> Operation
     requires { place < length (code_in code.now).operations }
     ensures { operation_at (code_in code.now).operations place ≡ Some result }
 {
-    decoded(code.operations()[place])
+    Operation::try_from(code.operations()[place]).unwrap()
 }
 
 pub(crate) fn operand_at(code: &Checked<'_>, place: usize) -> u64

@@ -1,5 +1,6 @@
 use Rattle.std.proofs.Common.{◌≡◌, ◌+◌, ◌-◌, length, take, drop, sym, ap, ◌∙◌, arith}
 use Rattle.std.proofs.lemmas.List.{length-take, length-drop}
+use Rattle.code.proofs.Bytes.{numbers_read}
 use Rattle.code.proofs.RoundTrip.{loaded_to_file}
 use Rattle.code.proofs.Storing.{load_short, load_done, loaded_operations}
 use Rattle.code.proofs.stored.load.Goals as goal
@@ -21,7 +22,8 @@ returns c =
     let xs = c.args.operands.now in
     let os' = c.write.new.buffer in
     let xs' = c.read_operands.new.operands in
+    let nums = numbers_read s.operations (16 + s.operations) bs xs xs' c.as_chunks.result.0.now (omega arith) c.as_chunks.ensures.front c.read_operands.ensures in
     record {
-      answer = load_done s bs os xs os' xs' c.read_sizes-sizes.ensures c.if-bytes-count.false good ops c.read_operands.ensures;
-      restores = loaded_to_file bs (λ i. (c.type_inv.bytes i).fits) s os xs os' xs' c.read_sizes-sizes.ensures c.if-bytes-count.false ops c.read_operands.ensures;
+      answer = load_done s bs os xs os' xs' c.read_sizes-sizes.ensures c.if-bytes-count.false good ops nums;
+      restores = loaded_to_file bs (λ i. (c.type_inv.bytes i).fits) s os xs os' xs' c.read_sizes-sizes.ensures c.if-bytes-count.false ops nums;
     }

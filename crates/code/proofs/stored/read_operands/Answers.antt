@@ -1,11 +1,9 @@
-use Rattle.std.proofs.Common.{refl, arith}
-use Rattle.code.specs.Files.{numbers}
-use Rattle.code.proofs.Bytes.{numbers_step}
+use Rattle.std.proofs.Common.{sym, ap, ◌∙◌, arith}
+use Rattle.code.proofs.Bytes.{number_of_8, numbers_step}
 use Rattle.code.proofs.stored.read_operands.Goals as goal
 
-pub loop-i-init : goal.loop-i-init
-unfolding numbers
-loop-i-init c = refl
-
-pub loop-i-preserved : goal.loop-i-preserved
-loop-i-preserved c = numbers_step c.loop-i.i c.args.at _ c.args.bytes.now c.args.operands.now (omega arith) c.loop-i.invariant c.read_u64.ensures
+pub loop-place-preserved : goal.loop-place-preserved
+loop-place-preserved c =
+    let i = c.loop-place.place in
+    let word = c.from_le_bytes.ensures ∙ sym (number_of_8 _ (c.told-words i c.loop-place-test.true)) in
+    numbers_step i _ c.args.words.now c.args.operands.now c.loop-place-test.true (omega arith) c.loop-place.invariant word
