@@ -16,10 +16,15 @@ pub data Taken (F : Type 0) : Type 0 where
   refused : ℕ → Taken F
   refused_at : ℕ → ℕ → Taken F
 
--- An empty list answers 33 at the end, and 34 with the place at damage.
+-- The number under which users know an ending.
+abbrev pub ending_number : HowItEnds → ℕ
+ending_number ends = 33
+ending_number (damaged_at place) = 34
+
+-- An empty list answers the number of its ending, at damage with the place.
 abbrev pub at_ending : {F : Type 0} → HowItEnds → Taken F
-at_ending ends = refused 33
-at_ending (damaged_at place) = refused_at 34 place
+at_ending ends = refused (ending_number ends)
+at_ending (damaged_at place) = refused_at (ending_number (damaged_at place)) place
 
 abbrev pub first_of : {F : Type 0} → HowItEnds → List F → Taken F
 first_of ending [] = at_ending ending
