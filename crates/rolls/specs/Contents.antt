@@ -1,5 +1,5 @@
 -- What a roll means: a finite list of figures and an ending. Taking hands over the first figure and leaves the rest.
-use Rattle.std.specs.Prelude.{ℕ, List, [], ◌∷◌}
+use Rattle.std.specs.Prelude.{ℕ, List, [], ◌∷◌, map}
 
 pub data HowItEnds : Type 0 where
   ends : HowItEnds
@@ -39,6 +39,10 @@ first c = first_of c.ending c.figures
 
 abbrev pub rest : {F : Type 0} → Contents F → Contents F
 rest c = record { figures = rest_of c.figures; ending = c.ending }
+
+-- What a roll of numbers holds in figures, where `make` says which figure each number is.
+abbrev pub made_of : {N F : Type 0} → (N → F) → Contents N → Contents F
+made_of make c = record { figures = map make c.figures; ending = c.ending }
 
 -- A list of figures that is all there, with nothing damaged.
 abbrev pub all_of : {F : Type 0} → List F → Contents F
