@@ -2,8 +2,8 @@
 
 // Where a byte stands in a text: its line and column, and the ends of its line, for messages to people.
 
-ghost use Rattle.std.specs.Prelude.{◌≡◌, ◌+◌, ◌≤◌, length, drop};
-ghost use Rattle.places.specs.Location.{location, to_line_end};
+ghost use Rattle.std.specs.Prelude.{◌≡◌, ◌≤◌, length};
+ghost use Rattle.places.specs.Location.{last_start, location, to_line_end};
 
 // Line and column count from 1; the line's bytes are those from `start` up to `end`.
 #[derive(Clone, Copy)]
@@ -18,36 +18,34 @@ pub struct Location {
 pub fn locate(text: &[u8], place: usize) -> Location
     ensures { result ≡ location text.now place }
 {
-    let place = if place < text.len() {
-        place
-    } else {
-        text.len()
-    };
-    let mut line = 1;
-    let mut start = 0;
-    for i in 0..place {
-        if text[i] == b'\n' {
-            line += 1;
-            start = i + 1;
-        }
-    }
+    let (before, after) = text.split_at(place.min(text.len()));
+    let start = line_start(before);
     Location {
-        line,
-        column: place - start + 1,
+        line: 1 + before.iter().filter(|b| **b == b'\n').count(),
+        column: before.len() - start + 1,
         start,
-        end: line_end(text, place),
+        end: before.len() + to_line_end(after),
     }
 }
 
-// The place of the first byte 10 from a place on, or the text's length.
-fn line_end(text: &[u8], place: usize) -> usize
-    requires { place ≤ length text.now }
-    ensures { result ≡ place + to_line_end (drop place text.now) }
+// The place after the last byte 10, where the last line begins.
+fn line_start(bytes: &[u8]) -> usize
+    ensures value { result ≡ last_start 0 0 bytes.now }
+    ensures within { result ≤ length bytes.now }
 {
-    for i in place..text.len() {
-        if text[i] == b'\n' {
-            return i;
-        }
+    match bytes.iter().rposition(|b| *b == b'\n') {
+        Some(end) => end + 1,
+        None => 0,
     }
-    text.len()
+}
+
+// How many bytes come before the first byte 10.
+fn to_line_end(bytes: &[u8]) -> usize
+    ensures value { result ≡ to_line_end bytes.now }
+    ensures within { result ≤ length bytes.now }
+{
+    match bytes.iter().position(|b| *b == b'\n') {
+        Some(end) => end,
+        None => bytes.len(),
+    }
 }

@@ -8,4 +8,3 @@ pub mod WholeLines
 pub mod Written
 pub mod LineEnds
 pub mod AmountLines
-pub mod WrittenAmounts

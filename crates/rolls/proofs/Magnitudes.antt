@@ -1,82 +1,74 @@
--- What the digits read from a place say of the first line there: each outcome of the reader, in the words of the rule.
-use Rattle.std.proofs.Common.{◌≡◌, ℕ, ◌+◌, ◌-◌, ◌<◌, ◌≤◌, true, leb, List, ◌∷◌, ◌++◌, length, get_or, take, drop, Some, None, sym, refl, ap, ◌∙◌, ⊎_elim, arith}
-use Rattle.std.proofs.lemmas.List.{append-nil, drop_all, drop-drop, drop_more, length-drop, length-take-le, take-append-drop}
-use Rattle.std.proofs.lemmas.Bool.{and_from, cases_lt, cond-true, le-leb, ne_eqb}
-use Rattle.rolls.specs.Lines.{all_digits, digits_value, file_of, is_magnitude}
-use Rattle.rolls.specs.Text.{DigitsRead, MagnitudeLine, first_magnitude}
-use Rattle.rolls.proofs.FirstLine.{digits_no_end, eleventh_byte_none, empty_none, large_none, other_byte_none, row_and_end, unended_alone}
+-- What the digits in front say of the line there: each outcome of the reader of whole figures, in the words of the rule.
+use Rattle.std.proofs.Common.{◌≡◌, ℕ, ◌<◌, ◌≤◌, true, false, leb, List, [], ◌∷◌, ◌++◌, length, Some, None, sym, ap, ◌∙◌, ⊎_elim, arith, length-append}
+use Rattle.std.proofs.lemmas.List.{append-nil}
+use Rattle.std.proofs.lemmas.Bool.{and_from, and_left, and_right, cases_lt, cond-true, le-leb}
+use Rattle.rolls.specs.Lines.{all_digits, digits_value, is_digit, is_magnitude, magnitude, no_end}
+use Rattle.rolls.specs.Reading.{FigureLine, NoFigureLine}
+use Rattle.rolls.specs.Text.{DigitsRead, digit_first}
+use Rattle.rolls.specs.LineLaws.{digits_no_end}
+use Rattle.rolls.specs.WholeLaws.{magnitude_no_end}
+use Rattle.rolls.proofs.FirstLine.{empty_none, large_none, long_none, longer_line, not_digits_none}
+use Rattle.rolls.proofs.WholeLines.{no_row, same_row}
 
-module _ (bytes : List ℕ) (start value end : ℕ) (r : DigitsRead bytes start value end) where
-  abbrev row : List ℕ
-  row = take (end - start) (drop start bytes)
+-- One byte that is no digit: not all are.
+pub digits_stop : (row : List ℕ) (c : ℕ) (more : List ℕ) → is_digit c ≡ false → all_digits (row ++ c ∷ more) ≡ false
+digits_stop [] c more other = and_left (is_digit c) (all_digits more) other
+digits_stop (d ∷ row) c more other = and_right (is_digit d) (all_digits (row ++ c ∷ more)) (digits_stop row c more other)
 
-  row_length : length row ≡ end - start
-  row_length =
-      let from = r.from in
-      let within = r.within in
-      length-take-le (end - start) (drop start bytes) (simp length-drop (omega arith))
+module _ (bytes : List ℕ) (value : ℕ) (rest : List ℕ) (r : DigitsRead bytes value rest) where
+  inside : no_end r.row ≡ true
+  inside = digits_no_end r.row r.digits
 
-  -- The bytes are the digits and what stands behind them.
-  split : drop start bytes ≡ row ++ drop end bytes
-  split =
-      let from = r.from in
-      let place : start + (end - start) ≡ end = omega arith in
-      sym (take-append-drop (end - start) (drop start bytes))
-      ∙ ap (λ t. row ++ t) (drop-drop (end - start) start bytes ∙ ap (λ k. drop k bytes) place)
+  pub only_digits : rest ≡ [] → NoFigureLine magnitude bytes
+  only_digits none line later n e holds =
+      no_row r.row line later inside (sym (append-nil r.row) ∙ ap (λ t. r.row ++ t) (sym none) ∙ sym r.parts ∙ e)
 
-  pub unended_none : length bytes ≤ end → first_magnitude (file_of (drop start bytes)).lines ≡ None
-  unended_none past =
-      let alone : drop start bytes ≡ row = split ∙ ap (λ t. row ++ t) (drop_all end bytes past) ∙ append-nil row in
-      ap (λ bs. first_magnitude (file_of bs).lines) alone ∙ ap (λ f. first_magnitude f.lines) (unended_alone row (digits_no_end row r.digits))
+  -- Digits, and then a byte that is no line end.
+  pub other_byte : (c : ℕ) (more : List ℕ) → rest ≡ c ∷ more → (c ≡ 10 → ⊥) → NoFigureLine magnitude bytes
+  other_byte c more is other line later n e holds =
+      let longer = longer_line r.row c more line later inside other (ap (λ t. r.row ++ t) (sym is) ∙ sym r.parts ∙ e) in
+      let long = length-append r.row (c ∷ longer.0) in
+      let limit = r.ten_at_most in
+      let none : magnitude (r.row ++ c ∷ longer.0) ≡ None =
+      ⊎_elim
+      (λ (short : length r.row < 10).
+      not_digits_none (r.row ++ c ∷ longer.0) (digits_stop r.row c longer.0 (ap digit_first (sym is) ∙ r.no_more short)))
+      (λ (full : 10 ≤ length r.row). long_none (r.row ++ c ∷ longer.0) (omega arith))
+      (cases_lt (length r.row) 10)
+      in
+      let there = ap magnitude longer.1 in
+      cc
 
-  module _ (inside : end < length bytes) where
-    split_at : drop start bytes ≡ row ++ get_or bytes end 0 ∷ drop (end + 1) bytes
-    split_at = split ∙ ap (λ t. row ++ t) (drop_more bytes end 0 inside)
+  -- Digits, and then the line's end.
+  module _ (more : List ℕ) (is : rest ≡ 10 ∷ more) where
+    ended : bytes ≡ r.row ++ 10 ∷ more
+    ended = r.parts ∙ ap (λ t. r.row ++ t) is
 
-    pub no_end_none : (get_or bytes end 0 ≡ 10 → ⊥) → first_magnitude (file_of (drop start bytes)).lines ≡ None
-    no_end_none other =
-        let b = get_or bytes end 0 in
-        let rest = drop (end + 1) bytes in
-        let no_end = ne_eqb b 10 other in
+    no_magnitude : magnitude r.row ≡ None → NoFigureLine magnitude bytes
+    no_magnitude none line later n e holds =
+        let same = ap magnitude (same_row r.row line more later inside (magnitude_no_end line n holds) (sym ended ∙ e)) in
+        cc
+
+    pub empty_row : length rest ≡ length bytes → NoFigureLine magnitude bytes
+    empty_row all =
+        let long = ap length r.parts ∙ length-append r.row rest in
+        no_magnitude (empty_none r.row (omega arith))
+
+    pub large_row : 2000000000 < value → NoFigureLine magnitude bytes
+    large_row large = let v = r.value_is in no_magnitude (large_none r.row (omega arith))
+
+    pub row_found : (length rest ≡ length bytes → ⊥) → value ≤ 2000000000 → FigureLine magnitude bytes value more
+    row_found some small =
+        let v = r.value_is in
         let limit = r.ten_at_most in
-        let from = r.from in
-        ap (λ bs. first_magnitude (file_of bs).lines) split_at
-        ∙ ⊎_elim
-        (λ (short : end < start + 10). other_byte_none row b rest r.digits no_end (r.no_more short inside))
-        (λ (long : start + 10 ≤ end). eleventh_byte_none row b rest r.digits no_end (row_length ∙ omega arith))
-        (cases_lt end (start + 10))
-
-    module _ (ended : get_or bytes end 0 ≡ 10) where
-      pub line_cut : file_of (drop start bytes) ≡ record { lines = row ∷ (file_of (drop (end + 1) bytes)).lines; unended = (file_of (drop (end + 1) bytes)).unended }
-      line_cut =
-          ap file_of (split_at ∙ ap (λ b. row ++ b ∷ drop (end + 1) bytes) ended)
-          ∙ row_and_end row (drop (end + 1) bytes) (digits_no_end row r.digits)
-
-      pub empty_line_none : end ≡ start → first_magnitude (file_of (drop start bytes)).lines ≡ None
-      empty_line_none empty = ap (λ f. first_magnitude f.lines) line_cut ∙ empty_none row (row_length ∙ omega arith)
-
-      pub large_line_none : 2000000000 < value → first_magnitude (file_of (drop start bytes)).lines ≡ None
-      large_line_none large =
-          let is = r.value_is in
-          ap (λ f. first_magnitude f.lines) line_cut ∙ large_none row (omega arith)
-
-      pub line_found : (end ≡ start → ⊥) → value ≤ 2000000000 → MagnitudeLine bytes start value (end + 1)
-      line_found some small =
-          let is = r.value_is in
-          let from = r.from in
-          let limit = r.ten_at_most in
-          let long = row_length in
-          let passes : is_magnitude row ≡ true =
-          and_from (all_digits row) _ r.digits
-          (and_from (leb 1 (length row)) _ (le-leb 1 (length row) (omega arith))
-          (and_from (leb (length row) 10) _ (le-leb (length row) 10 (omega arith)) (le-leb (digits_value 0 row) 2000000000 (omega arith))))
-          in
-          record {
-            line = row;
-            rest = drop (end + 1) bytes;
-            writes = cond-true (is_magnitude row) (Some (digits_value 0 row)) None passes ∙ ap Some (sym is);
-            small = small;
-            next_is = omega arith;
-            rest_is = refl;
-            cut = line_cut;
-          }
+        let long = ap length r.parts ∙ length-append r.row rest in
+        let passes : is_magnitude r.row ≡ true =
+        and_from (all_digits r.row) _ r.digits
+        (and_from (leb 1 (length r.row)) _ (le-leb 1 (length r.row) (omega arith))
+        (and_from (leb (length r.row) 10) _ (le-leb (length r.row) 10 (omega arith)) (le-leb (digits_value 0 r.row) 2000000000 (omega arith))))
+        in
+        record {
+          line = r.row;
+          parts = ended;
+          holds = cond-true (is_magnitude r.row) (Some (digits_value 0 r.row)) None passes ∙ ap Some (sym v);
+        }

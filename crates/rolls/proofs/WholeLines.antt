@@ -1,9 +1,10 @@
 -- Files as whole lines: what a file's lines and its unended rest have to do with its bytes, and what reading makes of them.
-use Rattle.std.proofs.Common.{◌≡◌, ℕ, suc, ◌+◌, true, false, not, ◌&&◌, eqb, ◌⊎◌, List, [], ◌∷◌, ◌++◌, length, ℤ, pos, neg_ℤ, Some, None, Option, sym, refl, ap, ◌∙◌, subst, ap₂, inl, inr, ⊎_elim, append_assoc, arith, length-append}
+use Rattle.std.proofs.Common.{◌≡◌, ℕ, suc, ◌+◌, true, false, not, eqb, ◌⊎◌, List, [], ◌∷◌, ◌++◌, length, ℤ, pos, neg_ℤ, Some, None, Option, sym, refl, ap, ◌∙◌, subst, ap₂, inl, inr, ⊎_elim, append_assoc, arith, length-append}
 use Rattle.std.proofs.lemmas.Bool.{and_parts, cases_Bool, cond-false, cond-true, eqb-true, ne_eqb}
 use Rattle.rolls.specs.Contents.{Contents, damaged_at}
-use Rattle.rolls.specs.Lines.{File, all_digits, before, digits_value, file_of, is_magnitude, magnitude, no_end, onto_first, read_as, read_lines, signed_line, with_sign}
-use Rattle.rolls.proofs.FirstLine.{digits_no_end, not_end}
+use Rattle.rolls.specs.Lines.{File, before, file_of, no_end, onto_first, read_as, read_lines, signed_line, with_sign}
+use Rattle.rolls.specs.LineLaws.{not_end}
+use Rattle.rolls.proofs.FirstLine.{ends_none}
 use Rattle.rolls.specs.Reading.{EndsAt, NoFigureLine, Reading, at_damage, at_end, with_ends}
 
 -- A file's lines and the rest behind them have no byte 10 inside.
@@ -11,13 +12,13 @@ abbrev NoEnds : List (List ℕ) → Type 0
 NoEnds [] = Unit {0}
 NoEnds (line ∷ lines) = (no_end line ≡ true) × NoEnds lines
 
-record CutUp (bytes : List ℕ) (f : File) : Type 0 where
-  parts : bytes ≡ with_ends f.lines ++ f.unended
+pub record CutUp (bytes : List ℕ) (f : File) : Type 0 where
+  pub parts : bytes ≡ with_ends f.lines ++ f.unended
   inside : NoEnds f.lines
   rest : no_end f.unended ≡ true
 
 -- Every file is cut up into its lines.
-cut_up : (bytes : List ℕ) → CutUp bytes (file_of bytes)
+pub cut_up : (bytes : List ℕ) → CutUp bytes (file_of bytes)
 cut_up [] = record { parts = refl; inside = tt; rest = refl }
 cut_up (b ∷ bytes) =
     let f = file_of bytes in
@@ -38,51 +39,34 @@ cut_up (b ∷ bytes) =
         record { parts = ap (λ bs. b ∷ bs) parts; inside = (not_end b other line inside.0, inside.1); rest = rest }
 
 -- Two rows without a byte 10, each followed by one, are equal where the whole is.
-same_row : (a b xs ys : List ℕ) → no_end a ≡ true → no_end b ≡ true → a ++ 10 ∷ xs ≡ b ++ 10 ∷ ys → a ≡ b
+pub same_row : (a b xs ys : List ℕ) → no_end a ≡ true → no_end b ≡ true → a ++ 10 ∷ xs ≡ b ++ 10 ∷ ys → a ≡ b
 same_row [] [] xs ys p q e = refl
 same_row [] (b ∷ bs) xs ys p q e =
     let is : b ≡ 10 = cc in
-    let z : false ≡ true = sym (ap (λ k. not (eqb k 10) && no_end bs) is) ∙ q in
-    let y : ◌≡◌ {A = ℕ} 0 1 = cc in
-    absurd (omega arith)
+    absurd (ends_none b bs is q)
 same_row (a ∷ cs) [] xs ys p q e =
     let is : a ≡ 10 = cc in
-    let z : false ≡ true = sym (ap (λ k. not (eqb k 10) && no_end cs) is) ∙ p in
-    let y : ◌≡◌ {A = ℕ} 0 1 = cc in
-    absurd (omega arith)
+    absurd (ends_none a cs is p)
 same_row (a ∷ cs) (b ∷ bs) xs ys p q e =
     let heads : a ≡ b = cc in
     let tails : cs ++ 10 ∷ xs ≡ bs ++ 10 ∷ ys = cc in
     ap₂ ◌∷◌ heads (same_row cs bs xs ys (and_parts (not (eqb a 10)) (no_end cs) p).1 (and_parts (not (eqb b 10)) (no_end bs) q).1 tails)
 
 -- A row without a byte 10 does not begin with a row and a byte 10.
-no_row : (a b ys : List ℕ) → no_end a ≡ true → a ≡ b ++ 10 ∷ ys → ⊥
-no_row [] [] ys p e = let y : ◌≡◌ {A = ℕ} 0 1 = cc in omega arith
-no_row [] (b ∷ bs) ys p e = let y : ◌≡◌ {A = ℕ} 0 1 = cc in omega arith
+pub no_row : (a b ys : List ℕ) → no_end a ≡ true → a ≡ b ++ 10 ∷ ys → ⊥
+no_row [] [] ys p e = cc
+no_row [] (b ∷ bs) ys p e = cc
 no_row (a ∷ cs) [] ys p e =
     let is : a ≡ 10 = cc in
-    let z : false ≡ true = sym (ap (λ k. not (eqb k 10) && no_end cs) is) ∙ p in
-    let y : ◌≡◌ {A = ℕ} 0 1 = cc in
-    omega arith
+    ends_none a cs is p
 no_row (a ∷ cs) (b ∷ bs) ys p e =
     let tails : cs ≡ bs ++ 10 ∷ ys = cc in
     no_row cs bs ys (and_parts (not (eqb a 10)) (no_end cs) p).1 tails
 
--- A line with a magnitude has no byte 10 inside.
-pub magnitude_no_end : (ds : List ℕ) (n : ℕ) → magnitude ds ≡ Some n → no_end ds ≡ true
-magnitude_no_end ds n writes =
-    ⊎_elim
-    (λ (passes : is_magnitude ds ≡ true). digits_no_end ds (and_parts (all_digits ds) _ passes).0)
-    (λ (fails : is_magnitude ds ≡ false).
-    let none = cond-false (is_magnitude ds) (Some (digits_value 0 ds)) None fails in
-    let z : ◌≡◌ {A = ℕ} 0 1 = cc in
-    absurd (omega arith))
-    (cases_Bool (is_magnitude ds))
-
 -- A sign changes whether there is a number in no way.
-sign_some : (sign : ℕ → ℤ) (m : Option ℕ) (z : ℤ) → with_sign sign m ≡ Some z → (n : ℕ) × (m ≡ Some n)
+pub sign_some : (sign : ℕ → ℤ) (m : Option ℕ) (z : ℤ) → with_sign sign m ≡ Some z → (n : ℕ) × (m ≡ Some n)
 sign_some sign (Some n) z h = (n, refl)
-sign_some sign None z h = let y : ◌≡◌ {A = ℕ} 0 1 = cc in absurd (omega arith)
+sign_some sign None z h = cc
 
 -- A line that holds a figure has no byte 10 inside, where what writes a number has none.
 pub figure_no_end : (writes : List ℕ → Option ℕ) → ((ds : List ℕ) (n : ℕ) → writes ds ≡ Some n → no_end ds ≡ true) → (line : List ℕ) (z : ℤ) → signed_line writes line ≡ Some z → no_end line ≡ true

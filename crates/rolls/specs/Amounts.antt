@@ -1,10 +1,10 @@
 -- The amounts file: figures in hundredths, one a line. A line is an optional minus sign, 1 to 10 digits, and then nothing
 -- or a point and two digits; its value is within ±2,000,000,000 hundredths. Lines, damage and ending are those of every
 -- roll file.
-use Rattle.std.specs.Prelude.{◌≡◌, ℕ, suc, ◌+◌, ◌-◌, ◌*◌, ◌/◌, ◌%◌, ◌<◌, ◌≤◌, Bool, true, cond, ◌&&◌, List, [], ◌∷◌, ◌++◌, map, length, take, drop, ℤ, pos, negsuc, Some, None, decimal, Option, ◌==◌, nat_le, slice_index, slice_index_or, slice_range}
+use Rattle.std.specs.Prelude.{ℕ, suc, ◌+◌, ◌-◌, ◌*◌, ◌/◌, ◌%◌, ◌≤◌, Bool, cond, ◌&&◌, List, [], ◌∷◌, ◌++◌, length, take, drop, ℤ, pos, negsuc, Some, None, decimal, Option, ◌==◌, nat_le, slice_index}
 use Rattle.figures.specs.declared.hundredths.Hundredths.{Hundredths}
 use Rattle.rolls.specs.Contents.{Contents}
-use Rattle.rolls.specs.Lines.{all_digits, digits_value, no_end, read_as, signed_line}
+use Rattle.rolls.specs.Lines.{all_digits, digits_value, read_as, signed_line}
 
 -- The number that 1 to 10 digits write.
 abbrev pub is_number : List ℕ → Bool
@@ -40,13 +40,6 @@ read_amounts = read_as amount_figure
 abbrev pub hundredths_figure : ℤ → Hundredths
 hundredths_figure z = record { hundredths = z }
 
-abbrev pub hundredths_figures : Contents ℤ → Contents Hundredths
-hundredths_figures c = record { figures = map hundredths_figure c.figures; ending = c.ending }
-
--- What an amount roll over these bytes holds when it stands at a place.
-abbrev pub amounts_from : List ℕ → ℕ → Contents Hundredths
-amounts_from bytes place = hundredths_figures (read_amounts place (drop place bytes))
-
 -- How an amount is written: the units as whole numbers are printed, a point, and the hundredths in two digits.
 abbrev pub amount_digits : ℕ → List ℕ
 amount_digits n = decimal (n / 100) ++ 46 ∷ (48 + n % 100 / 10) ∷ (48 + n % 10) ∷ []
@@ -54,17 +47,6 @@ amount_digits n = decimal (n / 100) ++ 46 ∷ (48 + n % 100 / 10) ∷ (48 + n % 
 abbrev pub amount_text : ℤ → List ℕ
 amount_text (pos n) = amount_digits n
 amount_text (negsuc n) = 45 ∷ amount_digits (suc n)
-
--- The first line end from a place on, where there is one.
-pub record FirstEnd (bytes : List ℕ) (start end : ℕ) : Type 0 where
-  pub from : start ≤ end
-  pub inside : end < length bytes
-  pub ended : slice_index_or bytes end 0 ≡ 10
-  pub none_before : no_end (slice_range bytes start end) ≡ true
-
-abbrev pub LineEnd : List ℕ → ℕ → Option ℕ → Type 0
-LineEnd bytes start (Some end) = FirstEnd bytes start end
-LineEnd bytes start None = no_end (drop start bytes) ≡ true
 
 -- An amount without its sign is within the range.
 abbrev pub WithinRange : Option ℕ → Type 0

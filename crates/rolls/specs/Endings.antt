@@ -1,16 +1,19 @@
--- The numbers of a roll's endings, and what a call's answer says in the terms of the definitions.
+-- What a call's answer says in the terms of the definitions, and the numbers of a roll's endings.
 use Rattle.std.specs.Prelude.{ℕ, Ok, Err, Result}
 use Rattle.rolls.specs.declared.roll.Ending.{Ending}
 use Rattle.rolls.specs.declared.roll.Ending.TheVariants.{End, Damaged}
-use Rattle.rolls.specs.Contents.{Taken, took, refused, refused_at}
+use Rattle.rolls.specs.Contents.{HowItEnds, Taken, at_ending, damaged_at, ending_number, ends, took}
+
+-- How a roll ends that tells this ending.
+abbrev pub how_it_ends : Ending → HowItEnds
+how_it_ends End = ends
+how_it_ends (Damaged place) = damaged_at place
 
 abbrev pub number : Ending → ℕ
-number End = 33
-number (Damaged place) = 34
+number e = ending_number (how_it_ends e)
 
 abbrev pub stopped : {F : Type 0} → Ending → Taken F
-stopped End = refused (number End)
-stopped (Damaged place) = refused_at (number (Damaged place)) place
+stopped e = at_ending (how_it_ends e)
 
 abbrev pub taken : {F : Type 0} → Result F Ending → Taken F
 taken (Ok x) = took x

@@ -8,3 +8,6 @@ pub mod Tallies
 pub mod Reading
 pub mod Amounts
 pub mod Cases
+pub mod LineLaws
+pub mod WholeLaws
+pub mod AmountLaws

@@ -11,9 +11,16 @@ abbrev pub with_ends : List (List ℕ) → List ℕ
 with_ends [] = []
 with_ends (line ∷ lines) = line ++ 10 ∷ with_ends lines
 
--- No line that holds a figure stands in front.
-abbrev pub NoFigureLine : (List ℕ → Option ℤ) → List ℕ → Type 0
-NoFigureLine figure bytes = (line later : List ℕ) (z : ℤ) → bytes ≡ line ++ 10 ∷ later → figure line ≢ Some z
+module _ {N : Type 0} (figure : List ℕ → Option N) (bytes : List ℕ) where
+  -- No line that holds a figure stands in front.
+  abbrev pub NoFigureLine : Type 0
+  NoFigureLine = (line later : List ℕ) (z : N) → bytes ≡ line ++ 10 ∷ later → figure line ≢ Some z
+
+  -- A line that holds this figure stands in front, and these bytes behind it.
+  pub record FigureLine (z : N) (rest : List ℕ) : Type 0 where
+    pub line : List ℕ
+    pub parts : bytes ≡ line ++ 10 ∷ rest
+    pub holds : figure line ≡ Some z
 
 -- How a roll ends whose lines with figures stop at a place, by what stands there.
 pub data EndsAt (figure : List ℕ → Option ℤ) (place : ℕ) : List ℕ → HowItEnds → Type 0 where

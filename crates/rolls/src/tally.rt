@@ -22,10 +22,7 @@ pub struct Tally<F> {
 fn add_to<F: Figures>(sum: Result<F, Fault>, figure: F) -> Result<F, Fault>
     ensures { outcome F.means result ≡ plus F.kind (outcome F.means sum) (F.means figure) }
 {
-    match sum {
-        Ok(so_far) => so_far.add(figure),
-        Err(fault) => Err(fault),
-    }
+    sum.and_then(|so_far| so_far.add(figure))
 }
 
 // Takes a roll to its end; the count stops at 2^64 - 1.

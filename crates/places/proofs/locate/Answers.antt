@@ -1,35 +1,14 @@
-use Rattle.std.proofs.Common.{◌<◌, length, sym, ◌∙◌, arith}
-use Rattle.places.proofs.Steps.{last_start_here, last_start_same, line_ends_more, line_ends_same}
+use Rattle.std.proofs.Common.{◌≡◌, ◌==◌, rules, arith}
+use Rattle.std.specs.List.{count_by}
+use Rattle.places.proofs.Ends.{counted_ends}
 use Rattle.places.proofs.locate.Goals as goal
-use Rattle.places.proofs.locate.Goals.{then-text-i-eq10, else-text-i-eq10, then-place-text, else-place-text}
 
-inside : (c : goal.Joined-text-i-eq10) → c.loop-i.i < length c.args.text.now
-inside c =
-    elim c.if-place-text.branch [
-      | then-place-text w ↦ omega (arith, w.place-is, w.if-place-text.true)
-      | else-place-text w ↦ omega (arith, w.place-is)
-    ]
-
-pub loop-i-preserved : goal.loop-i-preserved
-loop-i-preserved c =
-    let text = c.args.text.now in
-    let i = c.loop-i.i in
-    let held = c.loop-i.invariant in
-    elim c.if-text-i-eq10.branch [
-      | then-text-i-eq10 w ↦
-          let lines = line_ends_more text i (inside c) w.if-text-i-eq10.true in
-          let start = last_start_here text i (inside c) w.if-text-i-eq10.true in (
-            omega (arith, w.line-is, lines, held.0),
-            w.start-is ∙ sym start,
-            omega (arith, w.start-is),
-            omega (arith, w.line-is, held.3),
-          )
-      | else-text-i-eq10 w ↦
-          let lines = line_ends_same text i (inside c) w.if-text-i-eq10.false in
-          let start = last_start_same text i (inside c) w.if-text-i-eq10.false in (
-            omega (arith, w.line-is, lines, held.0),
-            w.start-is ∙ held.1 ∙ sym start,
-            omega (arith, w.start-is, held.2),
-            omega (arith, w.line-is, held.3),
-          )
-    ]
+pub returns : goal.returns
+returns c =
+    let counted : c.count.result ≡ count_by (λ b. b == 10) c.split_at.result.0.now = search rules in
+    let lines = counted_ends c.split_at.result.0.now in
+    let e1 = c.split_at.ensures.front in
+    let e2 = c.split_at.ensures.front_len in
+    let e3 = c.split_at.ensures.back in
+    let e4 = c.min.ensures in
+    grind (arith, lines, e1, e2, e3, e4)

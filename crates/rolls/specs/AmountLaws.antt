@@ -1,13 +1,59 @@
--- An amount of the range that is written with its two hundredths is read as that amount.
-use Rattle.std.proofs.Common.{◌≡◌, ℕ, suc, ◌+◌, ◌-◌, ◌*◌, ◌/◌, ◌%◌, ◌^◌, ◌<◌, ◌≤◌, true, leb, List, [], ◌∷◌, ◌++◌, length, get_or, take, drop, ℤ, pos, negsuc, neg_ℤ, ◌≤ℤ◌, Some, None, decimal, sym, refl, ap, ◌∙◌, ap₂, arith, leb→le}
+-- The laws of amounts in files: a line that writes an amount has no byte 10 inside, and the line of a written amount holds
+-- it.
+use Rattle.std.proofs.Common.{◌≡◌, ℕ, suc, ◌+◌, ◌-◌, ◌*◌, ◌/◌, ◌%◌, ◌^◌, ◌<◌, ◌≤◌, true, false, leb, List, [], ◌∷◌, ◌++◌, length, get_or, take, drop, ℤ, pos, negsuc, neg_ℤ, ◌≤ℤ◌, Some, None, decimal, Option, sym, refl, ap, ◌∙◌, ap₂, ⊎_elim, arith, leb→le}
 use Rattle.std.proofs.lemmas.Fmt.{decimal_nonempty, digits_decimal, length-decimal-le, digits_value-decimal}
-use Rattle.std.proofs.lemmas.List.{append_assoc, drop_at, get_or_append_left, get_or_at, length-append, length_push, take_at}
-use Rattle.std.proofs.lemmas.Bool.{and_from, and_parts, cond-true, le-leb, leb-true}
+use Rattle.std.proofs.lemmas.List.{append_assoc, drop_at, drop_more, get_or_append_left, get_or_at, length-append, length_push, take_at, take-append-drop}
+use Rattle.std.proofs.lemmas.Bool.{and_from, and_parts, cases_Bool, cond-false, cond-true, eq-eqb, eqb-true, le-leb, leb-true}
 use Rattle.figures.specs.Range.{low, high}
-use Rattle.rolls.specs.Amounts.{amount, amount_digits, amount_figure, amount_text, digits_number, in_hundredths, is_number}
-use Rattle.rolls.specs.Lines.{all_digits, digits_value, is_digit, with_sign}
-use Rattle.rolls.proofs.AmountLines.{plain_line, point_amount}
-use Rattle.rolls.proofs.Digits.{digit_from_bounds, own}
+use Rattle.rolls.specs.Amounts.{amount, amount_digits, amount_figure, amount_text, digits_number, has_point, in_hundredths, is_number}
+use Rattle.rolls.specs.Lines.{all_digits, digits_value, is_digit, no_end, with_sign}
+use Rattle.rolls.specs.LineLaws.{digit_from_bounds, digits_no_end, no_end_append, own, plain_line}
+
+-- A row that fails a test writes no number.
+pub number_none : (ds : List ℕ) → is_number ds ≡ false → digits_number ds ≡ None
+number_none ds fails = cond-false (is_number ds) (Some (digits_value 0 ds)) None fails
+
+module _ (line : List ℕ) where
+  -- A line with a point, and one without.
+  pub point_amount : 3 ≤ length line → get_or line (length line - 3) 0 ≡ 46 → amount line ≡ in_hundredths (digits_number (take (length line - 3) line)) (digits_number (drop (length line - 2) line))
+  point_amount long point =
+      cond-true (has_point line) _ (in_hundredths (digits_number line) (Some 0))
+      (and_from (leb 3 (length line)) _ (le-leb 3 (length line) long) (eq-eqb (get_or line (length line - 3) 0) 46 point))
+
+-- A row that writes a number has no byte 10 inside.
+number_no_end : (ds : List ℕ) (n : ℕ) → digits_number ds ≡ Some n → no_end ds ≡ true
+number_no_end ds n writes =
+    ⊎_elim
+    (λ (passes : is_number ds ≡ true). digits_no_end ds (and_parts (all_digits ds) _ passes).0)
+    (λ (fails : is_number ds ≡ false).
+    let none = number_none ds fails in
+    cc)
+    (cases_Bool (is_number ds))
+
+-- An amount has both its parts.
+both_parts : (whole part : Option ℕ) (n : ℕ) → in_hundredths whole part ≡ Some n → ((w : ℕ) × (whole ≡ Some w)) × ((p : ℕ) × (part ≡ Some p))
+both_parts (Some w) (Some p) n h = ((w, refl), (p, refl))
+both_parts (Some w) None n h = cc
+both_parts None part n h = cc
+
+-- A line that writes an amount has no byte 10 inside.
+pub amount_line_no_end : (line : List ℕ) (n : ℕ) → amount line ≡ Some n → no_end line ≡ true
+amount_line_no_end line n writes =
+    ⊎_elim
+    (λ (point : has_point line ≡ true).
+    let tests = and_parts (leb 3 (length line)) _ point in
+    let long : 3 ≤ length line = leb-true 3 (length line) tests.0 in
+    let is : get_or line (length line - 3) 0 ≡ 46 = eqb-true (get_or line (length line - 3) 0) 46 tests.1 in
+    let both = both_parts (digits_number (take (length line - 3) line)) (digits_number (drop (length line - 2) line)) n (sym (point_amount line long is) ∙ writes) in
+    let inside : length line - 3 < length line = omega arith in
+    let behind : length line - 3 + 1 ≡ length line - 2 = omega arith in
+    let tail : drop (length line - 3) line ≡ 46 ∷ drop (length line - 2) line = drop_more line (length line - 3) 0 inside ∙ ap₂ (λ b k. b ∷ drop k line) is behind in
+    sym (ap no_end (sym (ap (λ t. take (length line - 3) line ++ t) tail) ∙ take-append-drop (length line - 3) line))
+    ∙ no_end_append (take (length line - 3) line) (46 ∷ drop (length line - 2) line) (number_no_end (take (length line - 3) line) both.0.0 both.0.1) (number_no_end (drop (length line - 2) line) both.1.0 both.1.1))
+    (λ (plain : has_point line ≡ false).
+    let both = both_parts (digits_number line) (Some 0) n (sym (cond-false (has_point line) _ (in_hundredths (digits_number line) (Some 0)) plain) ∙ writes) in
+    number_no_end line both.0.0 both.0.1)
+    (cases_Bool (has_point line))
 
 -- The first of some digits is at least 48.
 first_digit : (ds : List ℕ) → all_digits ds ≡ true → 0 < length ds → 48 ≤ get_or ds 0 0
