@@ -1,30 +1,54 @@
--- How stored numbers of 32 bits enter the calculations in 64 bits.
-use Rattle.std.proofs.Common.{◌≡◌, ℕ, zero, suc, ◌+◌, ◌/◌, ◌≤◌, ℤ, pos, negsuc, neg_ℤ, ◌≤ℤ◌, refl, le_refl, div-le_self, arith, leb→le, w32, w64, to_z, of_z}
-use lib.Signed.{mag, quot_z}
-use Rattle.figures.specs.Range.{in_range, quotient}
+-- Results of 64 bits, found from two numbers of the range.
+use Rattle.std.proofs.Common.{◌≡◌, ℤ, pos, ◌+ℤ◌, ◌-ℤ◌, ◌*ℤ◌, ◌≤ℤ◌, ap, ap₂, ◌∙◌, arith, w64, SFits, to_z, of_z, rules, lit<}
+use lib.Signed.{quot_z}
+use Rattle.std.proofs.lemmas.Int.{fits_signed_mul, ints, to_z-of_z}
+use Rattle.figures.specs.Range.{high, low, quotient}
 
--- A number of 32 bits, cast to 64.
-abbrev pub widened : ℤ → ℤ
-widened z = to_z w64 (of_z w64 (to_z w32 (of_z w32 z)))
+-- A number as 64 bits hold it.
+abbrev pub held : ℤ → ℤ
+held z = to_z w64 (of_z w64 z)
 
--- A divisor whose bits are not zero is divided by.
-pub quotient_by_nonzero : (a b : ℤ) → (of_z w32 b ≡ 0 → ⊥) → quotient a b ≡ in_range (quot_z a b)
-quotient_by_nonzero a (pos zero) nonzero = absurd (nonzero refl)
-quotient_by_nonzero a (pos (suc b)) nonzero = refl
-quotient_by_nonzero a (negsuc b) nonzero = refl
+-- A number lies within the range.
+abbrev pub Within : ℤ → Type 0
+Within a = (low ≤ℤ a) × (a ≤ℤ high)
 
--- A number between two bounds is no larger than the two together.
-pub mag_within : (a : ℤ) (m n : ℕ) → negsuc m ≤ℤ a → a ≤ℤ pos n → mag a ≤ m + n
-mag_within (pos a) m n above below = let h : a ≤ n = leb→le a n below.le in omega arith
-mag_within (negsuc a) m n above below = let h : a ≤ m = leb→le a m above.le in omega arith
+module _ {a b x y : ℤ} (first : Within a) (second : Within b) (is_first : a ≡ x) (is_second : b ≡ y) where
+  -- No sum, difference or product of two such numbers loses anything, and no hundredth part of a product.
+  pub sum_held : held (held a +ℤ held b) ≡ x +ℤ y
+  sum_held =
+      let exact : held (held a +ℤ held b) ≡ a +ℤ b = omega (arith, ints) in
+      exact ∙ ap₂ (λ p q. p +ℤ q) is_first is_second
 
-mag_negated : (r : ℕ) → mag (neg_ℤ (pos r)) ≤ r
-mag_negated zero = le_refl 0
-mag_negated (suc r) = omega arith
+  pub difference_held : held (held a -ℤ held b) ≡ x -ℤ y
+  difference_held =
+      let exact : held (held a -ℤ held b) ≡ a -ℤ b = omega (arith, ints) in
+      exact ∙ ap₂ (λ p q. p -ℤ q) is_first is_second
 
--- A quotient is no larger than its dividend, up to the one by which negative numbers go further.
-pub mag_quotient : (a b : ℤ) → mag (quot_z a b) ≤ suc (mag a)
-mag_quotient (pos a) (pos b) = let h = div-le_self a b in omega arith
-mag_quotient (pos a) (negsuc b) = let h = div-le_self a (suc b) in let k = mag_negated (a / suc b) in omega arith
-mag_quotient (negsuc a) (pos b) = let h = div-le_self (suc a) b in let k = mag_negated (suc a / b) in omega arith
-mag_quotient (negsuc a) (negsuc b) = let h = div-le_self (suc a) (suc b) in omega arith
+  -- The product fits 64 bits.
+  product_fits : SFits w64 (a *ℤ b)
+  product_fits =
+      fits_signed_mul w64 a b 2000000000 2000000000 (omega (arith, ints, first.0, first.1)) (omega (arith, ints, second.0, second.1)) (lit< tt)
+
+  pub product_held : held (held a *ℤ held b) ≡ x *ℤ y
+  product_held =
+      let a64 : SFits w64 a = search rules in
+      let b64 : SFits w64 b = search rules in
+      let whole = product_fits in
+      let exact : held (held a *ℤ held b) ≡ a *ℤ b = simp to_z-of_z in
+      exact ∙ ap₂ (λ p q. p *ℤ q) is_first is_second
+
+  pub part_held : held (quot_z (held (held a *ℤ held b)) (pos 100)) ≡ quot_z (x *ℤ y) (pos 100)
+  part_held =
+      let a64 : SFits w64 a = search rules in
+      let b64 : SFits w64 b = search rules in
+      let whole = product_fits in
+      let part : SFits w64 (quot_z (a *ℤ b) (pos 100)) = omega (arith, ints) in
+      let exact : held (quot_z (held (held a *ℤ held b)) (pos 100)) ≡ quot_z (a *ℤ b) (pos 100) = simp to_z-of_z in
+      exact ∙ ap₂ (λ p q. quot_z (p *ℤ q) (pos 100)) is_first is_second
+
+  -- The quotient of a hundred times the one by the other.
+  pub scaled_quotient_held : quotient (held (pos 100 *ℤ held a)) (held b) ≡ quotient (pos 100 *ℤ x) y
+  scaled_quotient_held =
+      let dividend : held (pos 100 *ℤ held a) ≡ pos 100 *ℤ a = omega (arith, ints) in
+      let divisor : held b ≡ b = omega (arith, ints) in
+      ap₂ quotient (dividend ∙ ap (λ p. pos 100 *ℤ p) is_first) (divisor ∙ is_second)

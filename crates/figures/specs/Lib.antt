@@ -3,4 +3,5 @@ pub mod Kinds
 pub mod Range
 pub mod Whole
 pub mod Hundredths
+pub mod Text
 pub mod Cases

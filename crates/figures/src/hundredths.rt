@@ -1,19 +1,44 @@
 // Figures in hundredths.
 
-ghost use Rattle.std.specs.Prelude.{◌≡◌, ◌*◌, ℤ, pos, ◌≤ℤ◌, refl};
+ghost use Rattle.std.specs.Prelude.{◌≡◌, ◌*◌, ℤ, pos, ◌≤ℤ◌, Some, refl};
 ghost use Rattle.figures.specs.Hundredths.{Nearest, hundredths as in_hundredths, hundredths_value};
-ghost use Rattle.figures.specs.Range.{low, high};
+ghost use Rattle.figures.specs.Faults.{outcome};
+ghost use Rattle.figures.specs.Range.{high, in_range, low};
+ghost use Rattle.figures.specs.Text.{money_text};
 ghost use Rattle.std.proofs.Common.{arith};
 ghost use Rattle.std.proofs.lemmas.Int.{ints};
 
 use crate::fault::Fault;
 use crate::kind::Figures;
 use crate::range;
+use std::fmt;
 
 // So many hundredths; a number beyond ±2,000,000,000 is read as that end of the range.
 #[derive(Clone, Copy, Debug)]
 pub struct Hundredths {
     pub hundredths: i32,
+}
+
+impl Hundredths {
+    // The number of hundredths that it is read as.
+    fn value(self) -> i64
+        ensures value { result ≡ hundredths_value self }
+        ensures bound { (low ≤ℤ result) × (result ≤ℤ high) }
+    {
+        range::read(self.hundredths)
+    }
+}
+
+// The figure of a number of hundredths that lies within the range, or 31.
+impl TryFrom<i64> for Hundredths {
+    type Error = Fault;
+
+    ghost try_from_gives = { λ res answer. outcome hundredths_value answer ≡ in_range res };
+
+    fn try_from(res: i64) -> Result<Hundredths, Fault> {
+        let hundredths = range::fit(res)?;
+        Ok(Hundredths { hundredths })
+    }
 }
 
 impl Figures for Hundredths {
@@ -44,28 +69,25 @@ impl Figures for Hundredths {
     }
 
     fn add(self, other: Hundredths) -> Result<Hundredths, Fault> {
-        let hundredths = range::sum(self.hundredths, other.hundredths)?;
-        Ok(Hundredths { hundredths })
+        Hundredths::try_from(self.value() + other.value())
     }
 
     fn subtract(self, other: Hundredths) -> Result<Hundredths, Fault> {
-        let hundredths = range::difference(self.hundredths, other.hundredths)?;
-        Ok(Hundredths { hundredths })
+        Hundredths::try_from(self.value() - other.value())
     }
 
     fn multiply(self, other: Hundredths) -> Result<Hundredths, Fault> {
-        let hundredths = range::scaled_product(self.hundredths, other.hundredths)?;
-        Ok(Hundredths { hundredths })
+        Hundredths::try_from(self.value() * other.value() / 100)
     }
 
     fn divide(self, other: Hundredths) -> Result<Hundredths, Fault> {
-        let hundredths = range::scaled_quotient(self.hundredths, other.hundredths)?;
+        let hundredths = range::divide(100 * self.value(), other.value())?;
         Ok(Hundredths { hundredths })
     }
 
     fn negate(self) -> Hundredths {
         Hundredths {
-            hundredths: -range::clamp(self.hundredths),
+            hundredths: -self.value() as i32,
         }
     }
 
@@ -82,14 +104,27 @@ impl Figures for Hundredths {
         ensures half { Nearest (hundredths_value self) result }
     {
         // the dividend is not negative, so that cutting its quotient is rounding down
-        ((range::clamp(self.hundredths) as i64 + 2_000_000_050) / 100 - 20_000_000) as i32
+        ((self.value() + 2_000_000_050) / 100 - 20_000_000) as i32
     }
 
     fn less(self, other: Hundredths) -> bool {
-        range::clamp(self.hundredths) < range::clamp(other.hundredths)
+        self.value() < other.value()
     }
 
     fn same(self, other: Hundredths) -> bool {
-        range::clamp(self.hundredths) == range::clamp(other.hundredths)
+        self.value() == other.value()
+    }
+}
+
+// A figure prints as money, with two decimals.
+impl fmt::Display for Hundredths {
+    ghost output = { λ h. Some (money_text (hundredths_value h)) };
+
+    fn fmt<W: fmt::Write>(&self, f: &mut fmt::Formatter<W>) -> fmt::Result {
+        let value = self.value();
+        let minus = if value < 0 { "-" } else { "" };
+        let size = value.unsigned_abs();
+        let (units, part) = (size / 100, size % 100);
+        write!(f, "{minus}{units}.{part:02}")
     }
 }

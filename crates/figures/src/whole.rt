@@ -1,17 +1,43 @@
 // Whole figures.
 
-ghost use Rattle.std.specs.Prelude.{ℤ, pos, refl};
+ghost use Rattle.std.specs.Prelude.{◌≡◌, ℤ, pos, ◌≤ℤ◌, Some, refl};
+ghost use Rattle.figures.specs.Faults.{outcome};
+ghost use Rattle.figures.specs.Range.{high, in_range, low};
 ghost use Rattle.figures.specs.Whole.{whole, whole_value};
+ghost use Rattle.std.specs.Fmt.{signed_decimal};
 ghost use Rattle.std.proofs.Common.{rules};
 
 use crate::fault::Fault;
 use crate::kind::Figures;
 use crate::range;
+use std::fmt;
 
 // A whole number; one beyond ±2,000,000,000 is read as that end of the range.
 #[derive(Clone, Copy, Debug)]
 pub struct Whole {
     pub units: i32,
+}
+
+impl Whole {
+    // The number that it is read as.
+    fn value(self) -> i64
+        ensures value { result ≡ whole_value self }
+        ensures bound { (low ≤ℤ result) × (result ≤ℤ high) }
+    {
+        range::read(self.units)
+    }
+}
+
+// The figure of a number that lies within the range, or 31.
+impl TryFrom<i64> for Whole {
+    type Error = Fault;
+
+    ghost try_from_gives = { λ res answer. outcome whole_value answer ≡ in_range res };
+
+    fn try_from(res: i64) -> Result<Whole, Fault> {
+        let units = range::fit(res)?;
+        Ok(Whole { units })
+    }
 }
 
 impl Figures for Whole {
@@ -40,28 +66,25 @@ impl Figures for Whole {
     }
 
     fn add(self, other: Whole) -> Result<Whole, Fault> {
-        let units = range::sum(self.units, other.units)?;
-        Ok(Whole { units })
+        Whole::try_from(self.value() + other.value())
     }
 
     fn subtract(self, other: Whole) -> Result<Whole, Fault> {
-        let units = range::difference(self.units, other.units)?;
-        Ok(Whole { units })
+        Whole::try_from(self.value() - other.value())
     }
 
     fn multiply(self, other: Whole) -> Result<Whole, Fault> {
-        let units = range::product(self.units, other.units)?;
-        Ok(Whole { units })
+        Whole::try_from(self.value() * other.value())
     }
 
     fn divide(self, other: Whole) -> Result<Whole, Fault> {
-        let units = range::plain_quotient(self.units, other.units)?;
+        let units = range::divide(self.value(), other.value())?;
         Ok(Whole { units })
     }
 
     fn negate(self) -> Whole {
         Whole {
-            units: -range::clamp(self.units),
+            units: -self.nearest(),
         }
     }
 
@@ -70,14 +93,24 @@ impl Figures for Whole {
     }
 
     fn nearest(self) -> i32 {
-        range::clamp(self.units)
+        self.value() as i32
     }
 
     fn less(self, other: Whole) -> bool {
-        range::clamp(self.units) < range::clamp(other.units)
+        self.value() < other.value()
     }
 
     fn same(self, other: Whole) -> bool {
-        range::clamp(self.units) == range::clamp(other.units)
+        self.value() == other.value()
+    }
+}
+
+// A figure prints as the number that it is read as.
+impl fmt::Display for Whole {
+    ghost output = { λ w. Some (signed_decimal (whole_value w)) };
+
+    fn fmt<W: fmt::Write>(&self, f: &mut fmt::Formatter<W>) -> fmt::Result {
+        let number = self.value();
+        write!(f, "{number}")
     }
 }
