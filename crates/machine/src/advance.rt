@@ -24,20 +24,13 @@ impl Running<'_> {
     fn is_at_halt(&self) -> bool
         ensures { result ≡ at_halt (progress_of self.now) }
     {
-        match operation_at(&self.code, self.place) {
-            Operation::Halt => true,
-            _ => false,
-        }
+        matches!(operation_at(&self.code, self.place), Operation::Halt)
     }
 
     fn has_ended(&self) -> bool
         ensures { result ≡ ended (progress_of self.now) }
     {
-        if self.fault.is_some() {
-            true
-        } else {
-            self.is_at_halt()
-        }
+        self.fault.is_some() || self.is_at_halt()
     }
 
     // The next step of a run that has not ended.

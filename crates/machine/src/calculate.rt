@@ -1,11 +1,11 @@
 // Calculations on the operand stack.
 
-ghost use Rattle.std.specs.Prelude.{◌≡◌, ◌+◌, ◌-◌, ◌<◌, ◌≤◌, cond, not, ◌&&◌, ◌||◌, length, IfOk, if◌then◌else◌};
+ghost use Rattle.std.specs.Prelude.{◌≡◌, ◌+◌, ◌-◌, ◌<◌, ◌≤◌, cond, length, IfOk};
 ghost use Rattle.figures.specs.Faults.{outcome};
 ghost use Rattle.figures.specs.Kinds.{is_zero as zero_value};
 ghost use Rattle.code.specs.Descriptors.{unpacked};
 ghost use Rattle.machine.specs.Fits.{CalculationOperand, calculation_takes};
-ghost use Rattle.machine.specs.Machine.{calculated, calculation as calculation_of, element as element_of, is_true as true_value, of_one, of_two};
+ghost use Rattle.machine.specs.Machine.{calculated, element as element_of, is_true as true_value, of_one, of_two};
 ghost use Rattle.machine.specs.Views.{attempt, operands};
 
 use crate::fault::RunFault;
@@ -34,24 +34,6 @@ fn truth<F: Figures>(is_so: bool) -> Result<F, Fault>
     if is_so { F::of(1) } else { F::of(0) }
 }
 
-fn both(left: bool, right: bool) -> bool
-    ensures { result ≡ (left && right) }
-{
-    left && right
-}
-
-fn either(left: bool, right: bool) -> bool
-    ensures { result ≡ (left || right) }
-{
-    left || right
-}
-
-fn alike(left: bool, right: bool) -> bool
-    ensures { result ≡ (if left then right else not right) }
-{
-    if left { right } else { !right }
-}
-
 fn unary<F: Figures>(calculation: Unary, figure: F) -> Result<F, Fault>
     ensures { outcome F.means result ≡ of_one F.kind calculation (F.means figure) }
 {
@@ -74,19 +56,9 @@ fn binary<F: Figures>(calculation: Binary, left: F, right: F) -> Result<F, Fault
         Binary::Less => truth(left.less(right)),
         Binary::Same => truth(left.same(right)),
         Binary::More => truth(right.less(left)),
-        Binary::And => truth(both(is_true(left), is_true(right))),
-        Binary::Or => truth(either(is_true(left), is_true(right))),
-        Binary::Alike => truth(alike(is_true(left), is_true(right))),
-    }
-}
-
-// The fault of a calculation as a run's.
-fn attempted<F: Figures>(res: Result<F, Fault>) -> Result<F, RunFault>
-    ensures { attempt result F.means ≡ calculation_of (outcome F.means res) }
-{
-    match res {
-        Ok(figure) => Ok(figure),
-        Err(fault) => Err(RunFault::Calculation(fault)),
+        Binary::And => truth(is_true(left) && is_true(right)),
+        Binary::Or => truth(is_true(left) || is_true(right)),
+        Binary::Alike => truth(is_true(left) == is_true(right)),
     }
 }
 
@@ -119,19 +91,19 @@ pub(crate) fn calculate<F: Figures>(
 {
     match calculation {
         Calculation::Constant => {
-            let figure = attempted(F::of(operand as u32))?;
+            let figure = F::of(operand as u32)?;
             push(stack, depth, figure);
             Ok(depth + 1)
         }
         Calculation::One(one) => {
-            let result = attempted(unary(one, figure_over(stack, depth - 1)))?;
+            let result = unary(one, figure_over(stack, depth - 1))?;
             push(stack, depth - 1, result);
             Ok(depth)
         }
         Calculation::Two(two) => {
             let left = figure_over(stack, depth - 2);
             let right = figure_over(stack, depth - 1);
-            let result = attempted(binary(two, left, right))?;
+            let result = binary(two, left, right)?;
             push(stack, depth - 2, result);
             Ok(depth - 1)
         }

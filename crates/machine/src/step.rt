@@ -36,10 +36,7 @@ pub(crate) fn operand_at(code: &Checked<'_>, place: usize) -> u64
 fn ends_step(operation: Operation) -> bool
     ensures { result ≡ step_ends operation }
 {
-    match operation {
-        Operation::Halt | Operation::Mark => true,
-        _ => false,
-    }
+    matches!(operation, Operation::Halt | Operation::Mark)
 }
 
 // The operation at the frame's place.

@@ -1,12 +1,10 @@
 // Figures between the operand stack, the cells, the roll and the book.
 
 ghost use Rattle.std.specs.Prelude.{◌≡◌, ◌+◌, ◌-◌, ◌<◌, ◌≤◌, cond, map, length, MatchResult, OnErr};
-ghost use Rattle.rolls.specs.Contents.{first};
-ghost use Rattle.rolls.specs.Endings.{taken};
 ghost use Rattle.code.specs.Descriptors.{unpacked};
 ghost use Rattle.code.specs.WellFormed.{NamesCells};
 ghost use Rattle.machine.specs.Fits.{transfer_leaves, TransferOperand, transfer_takes};
-ghost use Rattle.machine.specs.Machine.{handed as handed_over, posted_in, taken_into, transferred};
+ghost use Rattle.machine.specs.Machine.{posted_in, taken_into, transferred};
 ghost use Rattle.machine.specs.Views.{attempt, operands, valued};
 
 use crate::calculate::element;
@@ -14,7 +12,7 @@ use crate::fault::RunFault;
 use crate::instruction::Transfer;
 use crate::operands::{figure_over, load, push, put};
 use figures::kind::Figures;
-use rolls::roll::{Ending, Roll};
+use rolls::roll::Roll;
 
 // Work on the stack and the cells: the depth after it.
 pub(crate) fn transfer_figure<F: Figures>(
@@ -55,16 +53,6 @@ pub(crate) fn transfer_figure<F: Figures>(
     }
 }
 
-// The ending of a roll as a run's fault.
-fn handed<F>(res: Result<F, Ending>) -> Result<F, RunFault>
-    ensures { attempt result (λ x. x) ≡ handed_over (taken res) }
-{
-    match res {
-        Ok(figure) => Ok(figure),
-        Err(ending) => Err(RunFault::Roll(ending)),
-    }
-}
-
 fn rounded_if<F: Figures>(is_rounded: bool, figure: F) -> F
     ensures { F.means result ≡ cond is_rounded (F.kind.round (F.means figure)) (F.means figure) }
 {
@@ -84,7 +72,7 @@ pub(crate) fn take_into<R: Roll>(
     ensures kept { OnErr result ((cells.new ≡ cells.old) × (R.holds roll.new ≡ R.holds roll.old)) }
 {
     let cell = element(operand, subscript)?;
-    let figure = handed(roll.take())?;
+    let figure = roll.take()?;
     put(cells, cell, rounded_if(is_rounded, figure));
     Ok(())
 }
