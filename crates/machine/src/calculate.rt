@@ -1,16 +1,16 @@
 // Calculations on the operand stack.
 
-ghost use Rattle.std.specs.Prelude.{◌≡◌, ◌+◌, ◌-◌, ◌<◌, ◌≤◌, cond, length, IfOk};
+ghost use Rattle.std.specs.Prelude.{◌≡◌, ◌+◌, ◌-◌, ◌<◌, ◌≤◌, cond, length, IfOk, OnOk};
 ghost use Rattle.figures.specs.Faults.{outcome};
 ghost use Rattle.figures.specs.Kinds.{is_zero as zero_value};
 ghost use Rattle.code.specs.Descriptors.{unpacked};
 ghost use Rattle.machine.specs.Fits.{CalculationOperand, calculation_takes};
 ghost use Rattle.machine.specs.Machine.{calculated, element as element_of, is_true as true_value, of_one, of_two};
-ghost use Rattle.machine.specs.Views.{attempt, operands};
+ghost use Rattle.machine.specs.Views.{attempt};
 
 use crate::fault::RunFault;
 use crate::instruction::{Binary, Calculation, Unary};
-use crate::operands::{figure_over, push};
+use crate::operands::OperandStack;
 use code::descriptor::Descriptor;
 use figures::fault::Fault;
 use figures::kind::{Figures, zero};
@@ -75,41 +75,43 @@ pub(crate) fn element<F: Figures>(operand: u64, subscript: F) -> Result<usize, R
     Ok(array.first + offset as usize)
 }
 
-// Work on the stack alone: the depth after it.
-pub(crate) fn calculate<F: Figures>(
-    calculation: Calculation,
-    operand: u64,
-    stack: &mut [F],
-    depth: usize,
-) -> Result<usize, RunFault>
-    requires low { calculation_takes calculation ≤ depth }
-    requires high { (depth - calculation_takes calculation) + 1 ≤ length stack.old }
-    requires tall { depth ≤ length stack.old }
-    requires operand { CalculationOperand calculation operand }
-    ensures work { attempt result (λ d. operands F.means d stack.new) ≡ calculated F.kind calculation operand (operands F.means depth stack.old) }
-    ensures depth { IfOk result (λ d. d ≡ (depth - calculation_takes calculation) + 1) }
-{
-    match calculation {
-        Calculation::Constant => {
-            let figure = F::of(operand as u32)?;
-            push(stack, depth, figure);
-            Ok(depth + 1)
-        }
-        Calculation::One(one) => {
-            let result = unary(one, figure_over(stack, depth - 1))?;
-            push(stack, depth - 1, result);
-            Ok(depth)
-        }
-        Calculation::Two(two) => {
-            let left = figure_over(stack, depth - 2);
-            let right = figure_over(stack, depth - 1);
-            let result = binary(two, left, right)?;
-            push(stack, depth - 2, result);
-            Ok(depth - 1)
-        }
-        Calculation::Bounds => {
-            element(operand, figure_over(stack, depth - 1))?;
-            Ok(depth)
+impl<F: Figures> OperandStack<'_, F> {
+    ghost use Rattle.machine.specs.Views.{laid};
+
+    // Work on the stack alone.
+    pub(crate) fn calculate(
+        &mut self,
+        calculation: Calculation,
+        operand: u64,
+    ) -> Result<(), RunFault>
+        requires low { calculation_takes calculation ≤ self.old.depth }
+        requires high { (self.old.depth - calculation_takes calculation) + 1 ≤ length self.old.figures.now }
+        requires operand { CalculationOperand calculation operand }
+        ensures work { attempt result (λ _. laid F.means self.new) ≡ calculated F.kind calculation operand (laid F.means self.old) }
+        ensures depth { OnOk result (self.new.depth ≡ (self.old.depth - calculation_takes calculation) + 1) }
+        ensures size { length self.new.figures.now ≡ length self.old.figures.now }
+    {
+        match calculation {
+            Calculation::Constant => {
+                let figure = F::of(operand as u32)?;
+                self.push(figure);
+                Ok(())
+            }
+            Calculation::One(one) => {
+                let figure = self.pop();
+                self.push(unary(one, figure)?);
+                Ok(())
+            }
+            Calculation::Two(two) => {
+                let right = self.pop();
+                let left = self.pop();
+                self.push(binary(two, left, right)?);
+                Ok(())
+            }
+            Calculation::Bounds => {
+                element(operand, self.top())?;
+                Ok(())
+            }
         }
     }
 }
