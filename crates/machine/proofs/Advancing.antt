@@ -1,10 +1,12 @@
 -- Steps one after another, and the refusals of an advance.
-use Rattle.std.proofs.Common.{◌≡◌, ℕ, zero, suc, ◌+◌, ◌-◌, ◌<◌, ◌≤◌, true, false, cond, eqb, leb, length, is_some, Some, None, Option, sym, refl, ap, ◌∙◌, arith}
+use Rattle.std.proofs.Common.{◌≡◌, ℕ, zero, suc, ◌+◌, ◌-◌, ◌<◌, ◌≤◌, true, false, cond, eqb, leb, List, length, is_some, Some, None, Option, sym, refl, ap, ◌∙◌, arith}
 use Rattle.std.specs.Option.{option_map}
 use Rattle.figures.specs.Kinds.{Kind, value, refused}
-use Rattle.machine.specs.Machine.{ResultOf}
-use Rattle.machine.specs.Runs.{Advanced, Run, advance_after, advance_answer, advance_refusal, at_step, came_to, ended, run, stepped}
+use Rattle.rolls.specs.Contents.{Contents}
+use Rattle.machine.specs.Machine.{Memory, ResultOf}
+use Rattle.machine.specs.Runs.{Advanced, Progress, Run, advance_after, advance_answer, advance_refusal, at_step, came_to, ended, run, stepped}
 use Rattle.machine.specs.Steps.{step}
+use Rattle.machine.specs.Views.{memory}
 
 pub some_mapped : {A B : Type 0} (f : A → B) (o : Option A) → is_some (option_map f o) ≡ is_some o
 some_mapped f None = refl
@@ -13,6 +15,17 @@ some_mapped f (Some x) = refl
 pub none_mapped : {A B : Type 0} (f : A → B) (o : Option A) → is_some (option_map f o) ≡ false → option_map f o ≡ None
 none_mapped f None e = refl
 none_mapped f (Some x) e = let z : ◌≡◌ {A = ℕ} 0 1 = cc in absurd (omega arith)
+
+abbrev run_with : {V : Type 0} → Progress → Memory V → Run V
+run_with p m = record { progress = p; memory = m }
+
+-- What is known of a run is known of one over the same cells, book and roll.
+pub same_run : {R F V : Type 0} (means : F → V) (holds : R → Contents F) {p : Progress} {posted : ℕ} {cells book : List F} {roll : R} {s : Run V} (cells' book' : List F) (roll' : R) → cells ≡ cells' → book ≡ book' → roll ≡ roll' → run_with p (memory means posted cells' book' (holds roll')) ≡ s → run_with p (memory means posted cells book (holds roll)) ≡ s
+same_run means holds {p} {posted} {cells} {book} {roll} cells' book' roll' a b c e =
+    ap (λ xs. run_with p (memory means posted xs book (holds roll))) a
+    ∙ ap (λ xs. run_with p (memory means posted cells' xs (holds roll))) b
+    ∙ ap (λ l. run_with p (memory means posted cells' book' (holds l))) c
+    ∙ e
 
 module _ {V : Type 0} (kind : Kind V) where
   -- A step of a run that has not ended.

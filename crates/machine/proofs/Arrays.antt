@@ -3,8 +3,9 @@ use Rattle.std.proofs.Common.{◌≡◌, ℕ, zero, suc, ◌+◌, ◌-◌, ◌<�
 use Rattle.std.proofs.lemmas.List.{append-nil, drop_all, take_more, take_more_set, reverse-append, length-map, length-reverse, length-take}
 use Rattle.std.specs.List.{slice_get}
 use Rattle.std.proofs.lemmas.Bool.{lt-ltb}
+use Rattle.machine.specs.declared.operands.OperandStack.{OperandStack}
 use Rattle.machine.specs.Machine.{gives, stored}
-use Rattle.machine.specs.Views.{operands}
+use Rattle.machine.specs.Views.{laid, operands}
 
 module _ {F V : Type 0} (means : F → V) (xs : List F) (d : ℕ) where
   -- A figure written behind the first d lies on top of them.
@@ -17,6 +18,10 @@ module _ {F V : Type 0} (means : F → V) (xs : List F) (d : ℕ) where
 
   pub operands_length : d ≤ length xs → length (operands means d xs) ≡ d
   operands_length l = simp (length-map, length-reverse, length-take) (omega arith)
+
+-- There are as many figures on the stack as it is deep.
+pub laid_length : {F V : Type 0} (means : F → V) (s : OperandStack F) → length (laid means s) ≡ s.depth
+laid_length means s = operands_length means s.figures.now s.depth s.tall
 
 -- The value of the figure that an array holds at a place.
 pub nth_value : {F V : Type 0} (means : F → V) (xs : List F) (i : ℕ) (r : F) → i < length xs → r ≡ get_or xs i r → slice_get (map means xs) i ≡ Some (means r)

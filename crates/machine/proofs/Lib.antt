@@ -2,6 +2,7 @@ pub mod Advancing
 pub mod Arrays
 pub mod Facts
 pub mod Laws
+pub mod Loans
 pub mod Performing
 pub mod Soundness
 pub mod Standing

@@ -19,8 +19,12 @@ fewer_left c p q d cells stack l e n = rw e (go n.on (ends_at c q) refl)
     go (inl u) false f = rw f (omega arith)
     go (inr u) false f = let z : ◌≡◌ {A = ℕ} 0 1 = cc in absurd (omega arith)
 
+-- The same over arrays of the same lengths.
 pub fits_as : {c : Code} {p d m h n i : ℕ} → Fits c p d m h → m ≡ n → h ≡ i → Fits c p d n i
 fits_as f e q = record { inside = f.inside; deep = f.deep; wide = sym e ∙ f.wide; tall = let t = f.tall in omega arith }
+
+pub follows_as : {c : Code} {from p d m h n i : ℕ} → Follows c from p d m h → m ≡ n → h ≡ i → Follows c from p d n i
+follows_as f e q = record { fits = fits_as f.fits e q; on = f.on }
 
 module _ {V : Type 0} (kind : Kind V) (c : Code) (s : State V) where
   -- Where the step has ended, it stays.

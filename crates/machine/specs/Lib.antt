@@ -2,6 +2,7 @@ pub mod Faults
 pub mod Fits
 pub mod Histories
 pub mod Instructions
+pub mod Loans
 pub mod Machine
 pub mod Reasons
 pub mod Refusals

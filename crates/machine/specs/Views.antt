@@ -2,7 +2,8 @@
 use Rattle.std.specs.Prelude.{ℕ, List, map, reverse, take, Ok, Err, Result}
 use Rattle.rolls.specs.Contents.{Contents}
 use Rattle.machine.specs.declared.fault.RunFault.{RunFault}
-use Rattle.machine.specs.declared.frame.Frame.{Frame}
+use Rattle.machine.specs.declared.operands.OperandStack.{OperandStack}
+use Rattle.machine.specs.declared.state.State.{State as Held}
 use Rattle.machine.specs.Faults.{fault_of}
 use Rattle.machine.specs.Machine.{Attempt, gives, fails, Memory, State, ResultOf, goes, faults}
 
@@ -17,11 +18,15 @@ operands means d xs = map means (reverse (take d xs))
 abbrev pub memory : {F V : Type 0} → (F → V) → ℕ → List F → List F → Contents F → Memory V
 memory means posted cells book roll = record { cells = map means cells; book = map means book; posted = posted; roll = valued means roll }
 
-abbrev pub state : {F V : Type 0} → (F → V) → Frame → List F → List F → List F → Contents F → State V
-state means f cells stack book roll = record {
-  place = f.place;
-  stack = operands means f.depth stack;
-  memory = memory means f.posted cells book roll;
+-- The figures on an operand stack, top first.
+abbrev pub laid : {F V : Type 0} → (F → V) → OperandStack F → List V
+laid means s = operands means s.depth s.figures.now
+
+abbrev pub state : {R F V : Type 0} → (F → V) → (R → Contents F) → OperandStack F → Held R F → State V
+state means holds stack s = record {
+  place = s.place;
+  stack = laid means stack;
+  memory = memory means s.posted s.cells.now s.book.now (holds s.roll.now);
 }
 
 -- What an answer says, by what is found afterwards.

@@ -8,12 +8,13 @@ ghost use Rattle.machine.specs.RunViews.{progress_of, report_of, run_of};
 ghost use Rattle.machine.specs.Runs.{Advanced, Asked, at_halt, ended, report, stepped};
 
 use crate::fault::RunFault;
-use crate::frame::Frame;
+use crate::operands::OperandStack;
 use crate::prepare::{ask_cell, has_all_cells};
 use crate::refusal::Refusal;
 use crate::running::Running;
+use crate::state::State;
 use crate::status::{Standing, Status};
-use crate::step::{operand_at, operation_at, step};
+use crate::step::{operand_at, operation_at};
 use code::operations::Operation;
 use figures::kind::Figures;
 use rolls::roll::Roll;
@@ -24,20 +25,13 @@ impl Running<'_> {
     fn is_at_halt(&self) -> bool
         ensures { result ≡ at_halt (progress_of self.now) }
     {
-        match operation_at(&self.code, self.place) {
-            Operation::Halt => true,
-            _ => false,
-        }
+        matches!(operation_at(&self.code, self.place), Operation::Halt)
     }
 
     fn has_ended(&self) -> bool
         ensures { result ≡ ended (progress_of self.now) }
     {
-        if self.fault.is_some() {
-            true
-        } else {
-            self.is_at_halt()
-        }
+        self.fault.is_some() || self.is_at_halt()
     }
 
     // The next step of a run that has not ended.
@@ -56,19 +50,25 @@ impl Running<'_> {
         ensures code { self.new.code ≡ self.old.code }
         ensures count { (self.new.count ≤ self.old.count + 1) × (self.old.count ≤ self.new.count) }
     {
-        let mut frame = Frame {
-            place: self.place,
+        let mut stack = OperandStack {
+            figures: stack,
             depth: 0,
-            posted: self.posted,
         };
-        match step(&self.code, &mut frame, cells, stack, book, roll) {
+        let mut state = State {
+            place: self.place,
+            cells,
+            book,
+            posted: self.posted,
+            roll,
+        };
+        match state.step(&self.code, &mut stack) {
             Ok(()) => {
-                self.place = frame.place;
-                self.posted = frame.posted;
+                self.place = state.place;
+                self.posted = state.posted;
                 self.count += 1;
             }
             Err(fault) => {
-                self.posted = frame.posted;
+                self.posted = state.posted;
                 self.fault = Some(fault);
             }
         }

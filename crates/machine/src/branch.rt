@@ -3,12 +3,10 @@
 ghost use Rattle.std.specs.Prelude.{◌≡◌, ◌+◌, ◌-◌, ◌<◌, ◌≤◌, length, slice_index};
 ghost use Rattle.machine.specs.Fits.{RowsWithin, BranchOperand, branch_takes};
 ghost use Rattle.machine.specs.Machine.{gives, gone, row as row_place, tabled};
-ghost use Rattle.machine.specs.Views.{operands};
 
 use crate::calculate::is_zero;
-use crate::frame::Frame;
 use crate::instruction::Branch;
-use crate::operands::figure_over;
+use crate::operands::OperandStack;
 use figures::kind::Figures;
 
 // The place of the JUMP that a table's row of this number is, or `on`.
@@ -31,35 +29,34 @@ fn table_row<F: Figures>(numbers: &[u64], table: usize, figure: F, on: usize) ->
     row(numbers, table, figure.nearest(), on)
 }
 
-pub(crate) fn go<F: Figures>(
-    numbers: &[u64],
-    branch: Branch,
-    operand: u64,
-    frame: &mut Frame,
-    stack: &[F],
-)
-    requires low { branch_takes branch ≤ frame.old.depth }
-    requires tall { frame.old.depth ≤ length stack.now }
-    requires place { frame.old.place < 4096 }
-    requires operand { BranchOperand branch (length numbers.now) (slice_index numbers.now operand) operand }
-    ensures work { gone F.kind numbers.now branch operand frame.old.place (operands F.means frame.old.depth stack.now) ≡ gives (frame.new.place, operands F.means frame.new.depth stack.now) }
-    ensures depth { frame.new.depth ≡ frame.old.depth - branch_takes branch }
-    ensures posted { frame.new.posted ≡ frame.old.posted }
-{
-    match branch {
-        Branch::Always => frame.place = operand as usize,
-        Branch::IfFalse => {
-            frame.depth -= 1;
-            if is_zero(figure_over(stack, frame.depth)) {
-                frame.place = operand as usize;
-            } else {
-                frame.place += 1;
+impl<F: Figures> OperandStack<'_, F> {
+    ghost use Rattle.machine.specs.Views.{laid};
+
+    // Where control goes from a jump at a place.
+    pub(crate) fn go(
+        &mut self,
+        numbers: &[u64],
+        branch: Branch,
+        operand: u64,
+        place: usize,
+    ) -> usize
+        requires low { branch_takes branch ≤ self.old.depth }
+        requires place { place < 4096 }
+        requires operand { BranchOperand branch (length numbers.now) (slice_index numbers.now operand) operand }
+        ensures work { gone F.kind numbers.now branch operand place (laid F.means self.old) ≡ gives (result, laid F.means self.new) }
+        ensures depth { self.new.depth ≡ self.old.depth - branch_takes branch }
+        ensures size { length self.new.figures.now ≡ length self.old.figures.now }
+    {
+        match branch {
+            Branch::Always => operand as usize,
+            Branch::IfFalse => {
+                if is_zero(self.pop()) {
+                    operand as usize
+                } else {
+                    place + 1
+                }
             }
-        }
-        Branch::ByTable => {
-            frame.depth -= 1;
-            let figure = figure_over(stack, frame.depth);
-            frame.place = table_row(numbers, operand as usize, figure, frame.place + 1);
+            Branch::ByTable => table_row(numbers, operand as usize, self.pop(), place + 1),
         }
     }
 }

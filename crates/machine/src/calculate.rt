@@ -1,16 +1,16 @@
 // Calculations on the operand stack.
 
-ghost use Rattle.std.specs.Prelude.{◌≡◌, ◌+◌, ◌-◌, ◌<◌, ◌≤◌, cond, not, ◌&&◌, ◌||◌, length, IfOk, if◌then◌else◌};
+ghost use Rattle.std.specs.Prelude.{◌≡◌, ◌+◌, ◌-◌, ◌<◌, ◌≤◌, cond, length, IfOk, OnOk};
 ghost use Rattle.figures.specs.Faults.{outcome};
 ghost use Rattle.figures.specs.Kinds.{is_zero as zero_value};
 ghost use Rattle.code.specs.Descriptors.{unpacked};
 ghost use Rattle.machine.specs.Fits.{CalculationOperand, calculation_takes};
-ghost use Rattle.machine.specs.Machine.{calculated, calculation as calculation_of, element as element_of, is_true as true_value, of_one, of_two};
-ghost use Rattle.machine.specs.Views.{attempt, operands};
+ghost use Rattle.machine.specs.Machine.{calculated, element as element_of, is_true as true_value, of_one, of_two};
+ghost use Rattle.machine.specs.Views.{attempt};
 
 use crate::fault::RunFault;
 use crate::instruction::{Binary, Calculation, Unary};
-use crate::operands::{figure_over, push};
+use crate::operands::OperandStack;
 use code::descriptor::Descriptor;
 use figures::fault::Fault;
 use figures::kind::{Figures, zero};
@@ -32,24 +32,6 @@ fn truth<F: Figures>(is_so: bool) -> Result<F, Fault>
     ensures { outcome F.means result ≡ F.kind.of (cond is_so 1 0) }
 {
     if is_so { F::of(1) } else { F::of(0) }
-}
-
-fn both(left: bool, right: bool) -> bool
-    ensures { result ≡ (left && right) }
-{
-    left && right
-}
-
-fn either(left: bool, right: bool) -> bool
-    ensures { result ≡ (left || right) }
-{
-    left || right
-}
-
-fn alike(left: bool, right: bool) -> bool
-    ensures { result ≡ (if left then right else not right) }
-{
-    if left { right } else { !right }
 }
 
 fn unary<F: Figures>(calculation: Unary, figure: F) -> Result<F, Fault>
@@ -74,19 +56,9 @@ fn binary<F: Figures>(calculation: Binary, left: F, right: F) -> Result<F, Fault
         Binary::Less => truth(left.less(right)),
         Binary::Same => truth(left.same(right)),
         Binary::More => truth(right.less(left)),
-        Binary::And => truth(both(is_true(left), is_true(right))),
-        Binary::Or => truth(either(is_true(left), is_true(right))),
-        Binary::Alike => truth(alike(is_true(left), is_true(right))),
-    }
-}
-
-// The fault of a calculation as a run's.
-fn attempted<F: Figures>(res: Result<F, Fault>) -> Result<F, RunFault>
-    ensures { attempt result F.means ≡ calculation_of (outcome F.means res) }
-{
-    match res {
-        Ok(figure) => Ok(figure),
-        Err(fault) => Err(RunFault::Calculation(fault)),
+        Binary::And => truth(is_true(left) && is_true(right)),
+        Binary::Or => truth(is_true(left) || is_true(right)),
+        Binary::Alike => truth(is_true(left) == is_true(right)),
     }
 }
 
@@ -103,41 +75,43 @@ pub(crate) fn element<F: Figures>(operand: u64, subscript: F) -> Result<usize, R
     Ok(array.first + offset as usize)
 }
 
-// Work on the stack alone: the depth after it.
-pub(crate) fn calculate<F: Figures>(
-    calculation: Calculation,
-    operand: u64,
-    stack: &mut [F],
-    depth: usize,
-) -> Result<usize, RunFault>
-    requires low { calculation_takes calculation ≤ depth }
-    requires high { (depth - calculation_takes calculation) + 1 ≤ length stack.old }
-    requires tall { depth ≤ length stack.old }
-    requires operand { CalculationOperand calculation operand }
-    ensures work { attempt result (λ d. operands F.means d stack.new) ≡ calculated F.kind calculation operand (operands F.means depth stack.old) }
-    ensures depth { IfOk result (λ d. d ≡ (depth - calculation_takes calculation) + 1) }
-{
-    match calculation {
-        Calculation::Constant => {
-            let figure = attempted(F::of(operand as u32))?;
-            push(stack, depth, figure);
-            Ok(depth + 1)
-        }
-        Calculation::One(one) => {
-            let result = attempted(unary(one, figure_over(stack, depth - 1)))?;
-            push(stack, depth - 1, result);
-            Ok(depth)
-        }
-        Calculation::Two(two) => {
-            let left = figure_over(stack, depth - 2);
-            let right = figure_over(stack, depth - 1);
-            let result = attempted(binary(two, left, right))?;
-            push(stack, depth - 2, result);
-            Ok(depth - 1)
-        }
-        Calculation::Bounds => {
-            element(operand, figure_over(stack, depth - 1))?;
-            Ok(depth)
+impl<F: Figures> OperandStack<'_, F> {
+    ghost use Rattle.machine.specs.Views.{laid};
+
+    // Work on the stack alone.
+    pub(crate) fn calculate(
+        &mut self,
+        calculation: Calculation,
+        operand: u64,
+    ) -> Result<(), RunFault>
+        requires low { calculation_takes calculation ≤ self.old.depth }
+        requires high { (self.old.depth - calculation_takes calculation) + 1 ≤ length self.old.figures.now }
+        requires operand { CalculationOperand calculation operand }
+        ensures work { attempt result (λ _. laid F.means self.new) ≡ calculated F.kind calculation operand (laid F.means self.old) }
+        ensures depth { OnOk result (self.new.depth ≡ (self.old.depth - calculation_takes calculation) + 1) }
+        ensures size { length self.new.figures.now ≡ length self.old.figures.now }
+    {
+        match calculation {
+            Calculation::Constant => {
+                let figure = F::of(operand as u32)?;
+                self.push(figure);
+                Ok(())
+            }
+            Calculation::One(one) => {
+                let figure = self.pop();
+                self.push(unary(one, figure)?);
+                Ok(())
+            }
+            Calculation::Two(two) => {
+                let right = self.pop();
+                let left = self.pop();
+                self.push(binary(two, left, right)?);
+                Ok(())
+            }
+            Calculation::Bounds => {
+                element(operand, self.top())?;
+                Ok(())
+            }
         }
     }
 }

@@ -1,11 +1,14 @@
 // Why a run ends before its end.
 
-ghost use Rattle.std.specs.Prelude.{◌≡◌};
+ghost use Rattle.std.specs.Prelude.{◌≡◌, Some};
 ghost use Rattle.machine.specs.Faults.{number, roll_place};
 ghost use Rattle.machine.specs.Reasons.{calculation_reason, ending_reason, fault_reason};
+ghost use Rattle.machine.specs.declared.fault.RunFault.TheVariants.{Calculation, Roll};
 
 use figures::fault::Fault;
 use rolls::roll::Ending;
+use std::error::Error;
+use std::fmt;
 
 #[derive(Clone, Copy, PartialEq, Eq, Debug)]
 pub enum RunFault {
@@ -54,6 +57,35 @@ impl RunFault {
         }
     }
 }
+
+// A calculation that gives no figure ends the run.
+impl From<Fault> for RunFault {
+    ghost from_gives = { λ fault e. e ≡ Calculation fault };
+
+    fn from(fault: Fault) -> RunFault {
+        RunFault::Calculation(fault)
+    }
+}
+
+// A roll that hands over no figure ends the run.
+impl From<Ending> for RunFault {
+    ghost from_gives = { λ ending e. e ≡ Roll ending };
+
+    fn from(ending: Ending) -> RunFault {
+        RunFault::Roll(ending)
+    }
+}
+
+// Its sentence.
+impl fmt::Display for RunFault {
+    ghost output = { λ fault. Some (fault_reason fault) };
+
+    fn fmt<W: fmt::Write>(&self, f: &mut fmt::Formatter<W>) -> fmt::Result {
+        f.write_str(self.reason())
+    }
+}
+
+impl Error for RunFault {}
 
 fn calculation_reason(fault: Fault) -> &'static str
     ensures { result.now ≡ calculation_reason fault }

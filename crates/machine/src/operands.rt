@@ -1,26 +1,51 @@
 // The operand stack and the cells: arrays of figures.
 
-ghost use Rattle.std.specs.Prelude.{◌≡◌, ◌+◌, ◌<◌, ◌∷◌, map, length, set, Some, slice_set};
+ghost use Rattle.std.specs.Prelude.{◌≡◌, ◌+◌, ◌-◌, ◌<◌, ◌≤◌, ◌∷◌, drop, map, length, set, Some, slice_set};
 ghost use Rattle.std.specs.List.{slice_get};
 ghost use Rattle.machine.specs.Machine.{gives, stored};
-ghost use Rattle.machine.specs.Views.{operands};
 
 use figures::kind::Figures;
 
-// Lays a figure on the stack.
-pub(crate) fn push<F: Figures>(stack: &mut [F], depth: usize, figure: F)
-    requires { depth < length stack.old }
-    ensures { operands F.means (depth + 1) stack.new ≡ F.means figure ∷ operands F.means depth stack.old }
-{
-    stack[depth] = figure;
+// The operand stack: the first `depth` figures of an array that the caller lends, the top last.
+#[derive(Drop)]
+pub struct OperandStack<'m, F> {
+    pub(crate) figures: &'m mut [F],
+    pub(crate) depth: usize,
+    ghost tall: { depth ≤ length figures.now },
 }
 
-// The figure over the first `depth`.
-pub(crate) fn figure_over<F: Figures>(stack: &[F], depth: usize) -> F
-    requires { depth < length stack.now }
-    ensures { operands F.means (depth + 1) stack.now ≡ F.means result ∷ operands F.means depth stack.now }
-{
-    stack[depth]
+impl<F: Figures> OperandStack<'_, F> {
+    ghost use Rattle.machine.specs.Views.{laid};
+
+    // Lays a figure on the stack.
+    pub(crate) fn push(&mut self, figure: F)
+        requires { self.old.depth < length self.old.figures.now }
+        ensures laid { laid F.means self.new ≡ F.means figure ∷ laid F.means self.old }
+        ensures depth { self.new.depth ≡ self.old.depth + 1 }
+        ensures size { length self.new.figures.now ≡ length self.old.figures.now }
+    {
+        self.figures[self.depth] = figure;
+        self.depth += 1;
+    }
+
+    // Takes the figure on top.
+    pub(crate) fn pop(&mut self) -> F
+        requires { 0 < self.old.depth }
+        ensures laid { laid F.means self.old ≡ F.means result ∷ laid F.means self.new }
+        ensures depth { self.new.depth ≡ self.old.depth - 1 }
+        ensures size { length self.new.figures.now ≡ length self.old.figures.now }
+    {
+        self.depth -= 1;
+        self.figures[self.depth]
+    }
+
+    // The figure on top, which stays there.
+    pub(crate) fn top(&self) -> F
+        requires { 0 < self.now.depth }
+        ensures { laid F.means self.now ≡ F.means result ∷ drop 1 (laid F.means self.now) }
+    {
+        self.figures[self.depth - 1]
+    }
 }
 
 // What a cell holds.

@@ -1,8 +1,11 @@
 // Why a call on a run is refused; a refused call changes nothing.
 
-ghost use Rattle.std.specs.Prelude.{◌≡◌};
+ghost use Rattle.std.specs.Prelude.{◌≡◌, Some};
 ghost use Rattle.machine.specs.Reasons.{refusal_reason};
 ghost use Rattle.machine.specs.Refusals.{number};
+
+use std::error::Error;
+use std::fmt;
 
 #[derive(Clone, Copy, PartialEq, Eq, Debug)]
 pub enum Refusal {
@@ -49,3 +52,14 @@ impl Refusal {
         }
     }
 }
+
+// Its sentence.
+impl fmt::Display for Refusal {
+    ghost output = { λ refusal. Some (refusal_reason refusal) };
+
+    fn fmt<W: fmt::Write>(&self, f: &mut fmt::Formatter<W>) -> fmt::Result {
+        f.write_str(self.reason())
+    }
+}
+
+impl Error for Refusal {}

@@ -1,67 +1,57 @@
 // Figures between the operand stack, the cells, the roll and the book.
 
 ghost use Rattle.std.specs.Prelude.{◌≡◌, ◌+◌, ◌-◌, ◌<◌, ◌≤◌, cond, map, length, MatchResult, OnErr};
-ghost use Rattle.rolls.specs.Contents.{first};
-ghost use Rattle.rolls.specs.Endings.{taken};
 ghost use Rattle.code.specs.Descriptors.{unpacked};
 ghost use Rattle.code.specs.WellFormed.{NamesCells};
 ghost use Rattle.machine.specs.Fits.{transfer_leaves, TransferOperand, transfer_takes};
-ghost use Rattle.machine.specs.Machine.{handed as handed_over, posted_in, taken_into, transferred};
-ghost use Rattle.machine.specs.Views.{attempt, operands, valued};
+ghost use Rattle.machine.specs.Machine.{posted_in, taken_into, transferred};
+ghost use Rattle.machine.specs.Views.{attempt, valued};
 
 use crate::calculate::element;
 use crate::fault::RunFault;
 use crate::instruction::Transfer;
-use crate::operands::{figure_over, load, push, put};
+use crate::operands::{OperandStack, load, put};
 use figures::kind::Figures;
-use rolls::roll::{Ending, Roll};
+use rolls::roll::Roll;
 
-// Work on the stack and the cells: the depth after it.
-pub(crate) fn transfer_figure<F: Figures>(
-    transfer: Transfer,
-    operand: u64,
-    cells: &mut [F],
-    stack: &mut [F],
-    depth: usize,
-) -> Result<usize, RunFault>
-    requires low { transfer_takes transfer ≤ depth }
-    requires high { (depth - transfer_takes transfer) + transfer_leaves transfer ≤ length stack.old }
-    requires tall { depth ≤ length stack.old }
-    requires operand { TransferOperand transfer operand (length cells.old) }
-    ensures work { attempt result (λ d. (operands F.means d stack.new, map F.means cells.new)) ≡ transferred F.kind transfer operand (operands F.means depth stack.old) (map F.means cells.old) }
-    ensures depth { MatchResult result (λ d. d ≡ (depth - transfer_takes transfer) + transfer_leaves transfer) (λ _. cells.new ≡ cells.old) }
-{
-    match transfer {
-        Transfer::Load => {
-            push(stack, depth, load(cells, operand as usize));
-            Ok(depth + 1)
-        }
-        Transfer::Store => {
-            put(cells, operand as usize, figure_over(stack, depth - 1));
-            Ok(depth - 1)
-        }
-        Transfer::Get => {
-            let cell = element(operand, figure_over(stack, depth - 1))?;
-            push(stack, depth - 1, load(cells, cell));
-            Ok(depth)
-        }
-        Transfer::Put => {
-            let subscript = figure_over(stack, depth - 2);
-            let figure = figure_over(stack, depth - 1);
-            let cell = element(operand, subscript)?;
-            put(cells, cell, figure);
-            Ok(depth - 2)
-        }
-    }
-}
+impl<F: Figures> OperandStack<'_, F> {
+    ghost use Rattle.machine.specs.Views.{laid};
 
-// The ending of a roll as a run's fault.
-fn handed<F>(res: Result<F, Ending>) -> Result<F, RunFault>
-    ensures { attempt result (λ x. x) ≡ handed_over (taken res) }
-{
-    match res {
-        Ok(figure) => Ok(figure),
-        Err(ending) => Err(RunFault::Roll(ending)),
+    // Work on the stack and the cells.
+    pub(crate) fn transfer(
+        &mut self,
+        transfer: Transfer,
+        operand: u64,
+        cells: &mut [F],
+    ) -> Result<(), RunFault>
+        requires low { transfer_takes transfer ≤ self.old.depth }
+        requires high { (self.old.depth - transfer_takes transfer) + transfer_leaves transfer ≤ length self.old.figures.now }
+        requires operand { TransferOperand transfer operand (length cells.old) }
+        ensures work { attempt result (λ _. (laid F.means self.new, map F.means cells.new)) ≡ transferred F.kind transfer operand (laid F.means self.old) (map F.means cells.old) }
+        ensures depth { MatchResult result (λ _. self.new.depth ≡ (self.old.depth - transfer_takes transfer) + transfer_leaves transfer) (λ _. cells.new ≡ cells.old) }
+        ensures size { length self.new.figures.now ≡ length self.old.figures.now }
+    {
+        match transfer {
+            Transfer::Load => {
+                self.push(load(cells, operand as usize));
+                Ok(())
+            }
+            Transfer::Store => {
+                put(cells, operand as usize, self.pop());
+                Ok(())
+            }
+            Transfer::Get => {
+                let cell = element(operand, self.pop())?;
+                self.push(load(cells, cell));
+                Ok(())
+            }
+            Transfer::Put => {
+                let figure = self.pop();
+                let cell = element(operand, self.pop())?;
+                put(cells, cell, figure);
+                Ok(())
+            }
+        }
     }
 }
 
@@ -84,7 +74,7 @@ pub(crate) fn take_into<R: Roll>(
     ensures kept { OnErr result ((cells.new ≡ cells.old) × (R.holds roll.new ≡ R.holds roll.old)) }
 {
     let cell = element(operand, subscript)?;
-    let figure = handed(roll.take())?;
+    let figure = roll.take()?;
     put(cells, cell, rounded_if(is_rounded, figure));
     Ok(())
 }

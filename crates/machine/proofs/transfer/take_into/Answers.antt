@@ -10,7 +10,7 @@ returns g c =
     let cells = map means c.args.cells.now in
     let before = g.R.Roll.holds c.args.roll.now in
     let figure = c.in_ok-figure.figure in
-    let over = handed_value means before figure (c.in_ok-figure.ensures ∙ ap handed c.take.ensures.answer) in
+    let over = handed_value means before figure (ap handed c.in_ok-figure.ensures.answer) in
     let left = rest_value means before (g.R.Roll.holds c.take.new.self) c.take.ensures.left in
     record {
       work =
