@@ -1,5 +1,6 @@
 // The work table and the parser over it.
 
+ghost use Rattle.std.specs.Prelude.{◌≤◌, length};
 ghost use Rattle.words.specs.declared.word.Word.{Word as WordRecord};
 
 use crate::node::Node;
@@ -35,4 +36,7 @@ pub struct Parser<'a> {
     pub count: usize,
     pub at: usize,
     pub made: usize,
+    pub ghost within: { at ≤ count },
+    pub ghost room: { count ≤ length table.now },
+    pub ghost thrift: { made ≤ at },
 }
