@@ -15,7 +15,7 @@ use Rattle.parser.specs.declared.node.Node.TheVariants.{Literal, Simple, Subscri
 use Rattle.parser.specs.declared.refusal.Refusal.{Refusal}
 use Rattle.parser.specs.declared.table.Parser.{Parser}
 use Rattle.parser.specs.Records.{ahead, View, view, ExpAt, VariableAt}
-use Rattle.parser.specs.Promises.{Ready, place_of, Took, Made, Moves, here, deeper, Goes, Fails, Read, Reads}
+use Rattle.parser.specs.Promises.{place_of, Took, Made, Moves, here, deeper, Goes, Fails, Read, Reads}
 use Rattle.parser.proofs.Tables.{word_left}
 use Rattle.parser.proofs.Moving.{moves_none, moves_trans, moves_took, moves_left, left_ahead}
 use Rattle.parser.proofs.Going.{goes_start, goes_word, goes_deeper, goes_left, goes_done, goes_made, goes_part, goes_part_deeper, fails_part, fails_here}
@@ -67,12 +67,12 @@ as_factor limit end rk (w ∷ ws) d k e =
     ap (λ o. onward limit w.place (opens w.token) (λ q. run limit end ws q) (met d (levels_after w.token d) k (λ v. after k v w.token w.place)
     (if_found (λ o. prefix_script rk w.place o) (meets w.token w.place (within factor_script (behind_factor rk))) o))) e
 
-module _ (L : ℕ) (r : Parser) (ready : Ready r) where
+module _ (L : ℕ) (r : Parser) where
   pub goes_as_variable : heads (the_mark OpenRound) (ahead r) ≡ None → heads a_number (ahead r) ≡ None → Goes L r r (here (goto (begin (a factor)))) (here (part (begin (a variable)) variable_factor))
-  goes_as_variable e f = record { moves = moves_none r ready; leads = λ limit d k h. as_variable limit (length r.text.now) (ahead r) d k e f }
+  goes_as_variable e f = record { moves = moves_none r; leads = λ limit d k h. as_variable limit (length r.text.now) (ahead r) d k e f }
 
   pub goes_as_factor : (rk : ℕ) → heads (a_prefix rk) (ahead r) ≡ None → Goes L r r (here (goto (begin (a (ranked rk))))) (here (part (begin (a factor)) (behind_factor rk)))
-  goes_as_factor rk e = record { moves = moves_none r ready; leads = λ limit d k h. as_factor limit (length r.text.now) rk (ahead r) d k e }
+  goes_as_factor rk e = record { moves = moves_none r; leads = λ limit d k h. as_factor limit (length r.text.now) rk (ahead r) d k e }
 
 pub variable_value : (v : View) (x : Variable) (i : ℕ) → VariableAt v x i → ExpAt v (value_of x) i
 variable_value v (whole x) i h = h
@@ -85,23 +85,23 @@ variable_reads L r s q (Ok i) g x = record { tree = value_of x.tree; below = x.b
 variable_reads L r s q (Err e) g f = fails_part e tt g f
 
 -- A number.
-pub number_read : (L : ℕ) (r s q : Parser) (n b m : ℕ) → Ready r → heads a_number (ahead r) ≡ Some n → Took true r s → b ≡ place_of (length r.text.now) (ahead r) → Made (Literal n b) m s q
+pub number_read : (L : ℕ) (r s q : Parser) (n b m : ℕ) → heads a_number (ahead r) ≡ Some n → Took true r s → b ≡ place_of (length r.text.now) (ahead r) → Made (Literal n b) m s q
     → record { moves : Moves r q; reads : Read ExpAt L r q (here (goto (begin (a factor)))) m }
-number_read L r s q n b m h e t i k' =
+number_read L r s q n b m e t i k' =
     let k : Made (Literal n (place_of (length r.text.now) (ahead r))) m s q = rw i at k' in
     let p = place_of (length r.text.now) (ahead r) in
-    let paid : s.made < s.at = omega (arith, t.at, t.made, h.thrift) in
-    let m₁ : Moves r s = moves_took r s h (word_left a_number n r e) t in
-    let g = goes_made (Literal n p) m q (goes_word {L = L} a_number n s (λ c. here (done (literal n c))) (goes_start h) e t refl (λ d c k. refl)) paid (omega (arith, t.at, t.made)) k in
-    record { moves = g.moves; reads = record { tree = literal n p; below = omega (arith, k.place, k.made); held = made_node (Literal n p) m s q m₁.ready paid k; goes = g } }
+    let paid : s.made < s.at = omega (arith, t.at, t.made, r.thrift) in
+    let m₁ : Moves r s = moves_took r s (word_left a_number n r e) t in
+    let g = goes_made (Literal n p) m q (goes_word {L = L} a_number n s (λ c. here (done (literal n c))) goes_start e t refl (λ d c k. refl)) paid (omega (arith, t.at, t.made)) k in
+    record { moves = g.moves; reads = record { tree = literal n p; below = omega (arith, k.place, k.made); held = made_node (Literal n p) m s q paid k; goes = g } }
 
 -- A bracket: its `(` was taken, and an expression read.
-module _ (L : ℕ) (r s₁ : Parser) (ready : Ready r) (e₁ : heads (the_mark OpenRound) (ahead r) ≡ Some tt) (le : 1 ≤ L) (t₁ : Took true r s₁) where
+module _ (L : ℕ) (r s₁ : Parser) (e₁ : heads (the_mark OpenRound) (ahead r) ≡ Some tt) (le : 1 ≤ L) (t₁ : Took true r s₁) where
   abbrev spot : ℕ
   spot = place_of (length r.text.now) (ahead r)
 
   pub bracket_opened : Goes L r s₁ (here (goto (begin (a factor)))) (deeper (bracket_script spot))
-  bracket_opened = goes_deeper (the_mark OpenRound) tt s₁ (λ b. bracket_script b) (goes_start ready) e₁ t₁ le (λ d b k. refl)
+  bracket_opened = goes_deeper (the_mark OpenRound) tt s₁ (λ b. bracket_script b) goes_start e₁ t₁ le (λ d b k. refl)
 
   module _ (s₂ : Parser) (i : ℕ) (x : Read ExpAt (L - 1) s₁ s₂ (here (goto (begin (a exp)))) i) where
     pub bracket_inside : Goes L r s₂ (here (goto (begin (a factor)))) (deeper (bracket_rest spot x.tree))
@@ -115,8 +115,8 @@ module _ (L : ℕ) (r s₁ : Parser) (ready : Ready r) (e₁ : heads (the_mark O
         let g₃ = goes_left s₃ bracket_inside t₃ in
         let g₄ = goes_word (the_mark CloseRound) tt s₄ (λ _. here (done (bracketed spot x.tree))) g₃ e₄ t₄ refl (λ d c k. refl) in
         let strict : s₄.made + r.at < r.made + s₄.at = omega (arith, t₁.at, t₁.made, x.goes.moves.thrift, t₃.at, t₃.made, t₄.at, t₄.made) in
-        let paid : s₄.made < s₄.at = omega (arith, ready.thrift) in
-        let m₂ : Moves s₂ s₄ = moves_trans s₂ s₃ s₄ (moves_left s₂ s₃ x.goes.moves.ready t₃) (moves_took s₃ s₄ g₃.moves.ready (word_left (the_mark CloseRound) tt s₃ e₄) t₄) in
+        let paid : s₄.made < s₄.at = omega (arith, r.thrift) in
+        let m₂ : Moves s₂ s₄ = moves_trans s₂ s₃ s₄ (moves_left s₂ s₃ t₃) (moves_took s₃ s₄ (word_left (the_mark CloseRound) tt s₃ e₄) t₄) in
         let g = goes_made (Bracketed spot i) m q g₄ paid strict k in
         record {
           moves = g.moves;
@@ -125,7 +125,7 @@ module _ (L : ℕ) (r s₁ : Parser) (ready : Ready r) (e₁ : heads (the_mark O
             below = omega (arith, k.place, k.made);
             held = (
               i,
-              made_node (Bracketed spot i) m s₄ q m₂.ready paid k,
+              made_node (Bracketed spot i) m s₄ q paid k,
               omega (arith, x.below, m₂.more, k.place),
               exp_stays s₂ q (keeps_trans s₂ s₄ q (moves_keep s₂ s₄ m₂) (made_keeps (Bracketed spot i) m s₄ q k)) x.tree i x.below x.held,
             );
@@ -166,9 +166,9 @@ module _ (L : ℕ) (r s₁ : Parser) (ready : Ready r) (e₁ : heads (the_mark O
             let k : Made (Compared rel spot i j) m s₅ q = rw u at k' in
             let g₅ = goes_word (the_mark CloseRound) tt s₅ (λ _. here (done (compared rel spot x.tree y.tree))) comparison_inside e₅ t₅ refl (λ d c k. refl) in
             let strict : s₅.made + r.at < r.made + s₅.at = omega (arith, t₁.at, t₁.made, x.goes.moves.thrift, t₃.at, t₃.made, y.goes.moves.thrift, t₅.at, t₅.made) in
-            let paid : s₅.made < s₅.at = omega (arith, ready.thrift) in
-            let m₄ : Moves s₄ s₅ = moves_took s₄ s₅ y.goes.moves.ready (word_left (the_mark CloseRound) tt s₄ e₅) t₅ in
-            let m₂ : Moves s₂ s₅ = moves_trans s₂ s₄ s₅ (moves_trans s₂ s₃ s₄ (moves_took s₂ s₃ x.goes.moves.ready (word_left a_relation rel s₂ e₃) t₃) y.goes.moves) m₄ in
+            let paid : s₅.made < s₅.at = omega (arith, r.thrift) in
+            let m₄ : Moves s₄ s₅ = moves_took s₄ s₅ (word_left (the_mark CloseRound) tt s₄ e₅) t₅ in
+            let m₂ : Moves s₂ s₅ = moves_trans s₂ s₄ s₅ (moves_trans s₂ s₃ s₄ (moves_took s₂ s₃ (word_left a_relation rel s₂ e₃) t₃) y.goes.moves) m₄ in
             let last = made_keeps (Compared rel spot i j) m s₅ q k in
             let g = goes_made (Compared rel spot i j) m q g₅ paid strict k in
             record {
@@ -179,7 +179,7 @@ module _ (L : ℕ) (r s₁ : Parser) (ready : Ready r) (e₁ : heads (the_mark O
                 held = (
                   i,
                   j,
-                  made_node (Compared rel spot i j) m s₅ q m₂.ready paid k,
+                  made_node (Compared rel spot i j) m s₅ q paid k,
                   omega (arith, x.below, m₂.more, k.place),
                   omega (arith, y.below, m₄.more, k.place),
                   exp_stays s₂ q (keeps_trans s₂ s₅ q (moves_keep s₂ s₅ m₂) last) x.tree i x.below x.held,
@@ -190,12 +190,12 @@ module _ (L : ℕ) (r s₁ : Parser) (ready : Ready r) (e₁ : heads (the_mark O
             }
 
 -- An operator before its operand was taken.
-module _ (L : ℕ) (r s : Parser) (rk : ℕ) (o : Prefix) (ready : Ready r) (e : heads (a_prefix rk) (ahead r) ≡ Some o) (t : Took true r s) where
+module _ (L : ℕ) (r s : Parser) (rk : ℕ) (o : Prefix) (e : heads (a_prefix rk) (ahead r) ≡ Some o) (t : Took true r s) where
   abbrev prefix_place : ℕ
   prefix_place = place_of (length r.text.now) (ahead r)
 
   pub prefix_begun : Goes L r s (here (goto (begin (a (ranked rk))))) (here (prefix_script rk prefix_place o))
-  prefix_begun = goes_word (a_prefix rk) o s (λ b. here (prefix_script rk b o)) (goes_start ready) e t (prefix_opens o) (λ d b k. prefix_moves rk o d b k (heads_rank (a_prefix rk) o (ahead r) e))
+  prefix_begun = goes_word (a_prefix rk) o s (λ b. here (prefix_script rk b o)) goes_start e t (prefix_opens o) (λ d b k. prefix_moves rk o d b k (heads_rank (a_prefix rk) o (ahead r) e))
 
   pub prefix_fails : (n : ℕ) (u : Refusal) → n ≡ operand_rank o → Fails L s (here (goto (begin (a (ranked n))))) u → Fails L r (here (goto (begin (a (ranked rk))))) u
   prefix_fails n u i f = fails_part u (fresh (ranked (operand_rank o))) prefix_begun (rw i at f)
@@ -211,31 +211,31 @@ module _ (L : ℕ) (r s : Parser) (rk : ℕ) (o : Prefix) (ready : Ready r) (e :
       let k : Made (Prefixed o prefix_place i) m s₂ q = rw bi at k' in
       let g₂ = goes_part s₂ i (fresh (ranked (operand_rank o))) prefix_begun x in
       let strict : s₂.made + r.at < r.made + s₂.at = omega (arith, t.at, t.made, x.goes.moves.thrift) in
-      let paid : s₂.made < s₂.at = omega (arith, ready.thrift) in
+      let paid : s₂.made < s₂.at = omega (arith, r.thrift) in
       rw hi (record {
         tree = prefixed o prefix_place x.tree;
-        held = (i, made_node (Prefixed o prefix_place i) m s₂ q x.goes.moves.ready paid k, omega (arith, x.below, k.place), exp_stays s₂ q (made_keeps (Prefixed o prefix_place i) m s₂ q k) x.tree i x.below x.held);
+        held = (i, made_node (Prefixed o prefix_place i) m s₂ q paid k, omega (arith, x.below, k.place), exp_stays s₂ q (made_keeps (Prefixed o prefix_place i) m s₂ q k) x.tree i x.below x.held);
         goes = goes_made (Prefixed o prefix_place i) m q g₂ paid strict k;
       })
 
 -- A variable's name was taken.
-module _ (L : ℕ) (r s : Parser) (w : ℕ) (ready : Ready r) (n : NameTaken r w) (t : Took true r s) where
+module _ (L : ℕ) (r s : Parser) (w : ℕ) (n : NameTaken r w) (t : Took true r s) where
   abbrev variable_name : Name
   variable_name = record { letters = n.letters; place = place_of (length r.text.now) (ahead r) }
 
   pub variable_begun : Goes L r s (here (goto (begin (a variable)))) (here (variable_rest variable_name))
-  variable_begun = goes_word a_name n.letters s (λ b. here (variable_rest (record { letters = n.letters; place = b }))) (goes_start ready) n.next t refl (λ d b k. refl)
+  variable_begun = goes_word a_name n.letters s (λ b. here (variable_rest (record { letters = n.letters; place = b }))) goes_start n.next t refl (λ d b k. refl)
 
   pub whole_read : (q : Parser) (m : ℕ) → heads (the_mark OpenSquare) (ahead s) ≡ None → Made (Simple w) m s q → record { moves : Moves r q; reads : Read VariableAt L r q (here (goto (begin (a variable)))) m }
   whole_read q m e k =
-      let paid : s.made < s.at = omega (arith, t.at, t.made, ready.thrift) in
+      let paid : s.made < s.at = omega (arith, t.at, t.made, r.thrift) in
       let g = goes_made (Simple w) m q (goes_done variable_begun e) paid (omega (arith, t.at, t.made)) k in
       record {
         moves = g.moves;
         reads = record {
           tree = whole variable_name;
           below = omega (arith, k.place, k.made);
-          held = (w, made_node (Simple w) m s q variable_begun.moves.ready paid k, n.named q g.moves.same.words);
+          held = (w, made_node (Simple w) m s q paid k, n.named q g.moves.same.words);
           goes = g;
         };
       }
@@ -265,8 +265,8 @@ module _ (L : ℕ) (r s : Parser) (w : ℕ) (ready : Ready r) (n : NameTaken r w
       indexed_read s₃ q m e₃ t₃ k =
           let g₃ = goes_word (the_mark CloseSquare) tt s₃ (λ _. here (done (indexed variable_name x.tree))) subscript_inside e₃ t₃ refl (λ d b k. refl) in
           let strict : s₃.made + r.at < r.made + s₃.at = omega (arith, t.at, t.made, t₁.at, t₁.made, x.goes.moves.thrift, t₃.at, t₃.made) in
-          let paid : s₃.made < s₃.at = omega (arith, ready.thrift) in
-          let m₂ : Moves s₂ s₃ = moves_took s₂ s₃ x.goes.moves.ready (word_left (the_mark CloseSquare) tt s₂ e₃) t₃ in
+          let paid : s₃.made < s₃.at = omega (arith, r.thrift) in
+          let m₂ : Moves s₂ s₃ = moves_took s₂ s₃ (word_left (the_mark CloseSquare) tt s₂ e₃) t₃ in
           let g = goes_made (Subscripted w i) m q g₃ paid strict k in
           record {
             moves = g.moves;
@@ -277,7 +277,7 @@ module _ (L : ℕ) (r s : Parser) (w : ℕ) (ready : Ready r) (n : NameTaken r w
                 w,
                 (
                   i,
-                  made_node (Subscripted w i) m s₃ q m₂.ready paid k,
+                  made_node (Subscripted w i) m s₃ q paid k,
                   omega (arith, x.below, m₂.more, k.place),
                   exp_stays s₂ q (keeps_trans s₂ s₃ q (moves_keep s₂ s₃ m₂) (made_keeps (Subscripted w i) m s₃ q k)) x.tree i x.below x.held,
                 ),

@@ -6,7 +6,7 @@ use Rattle.parser.specs.declared.node.Node.{Node}
 use Rattle.parser.specs.declared.node.Node.TheVariants.{Empty, Subscripted, Prefixed, Joined, Bracketed, Compared}
 use Rattle.parser.specs.declared.table.Parser.{Parser}
 use Rattle.parser.specs.Records.{nodes, all, view, node, Named, One, Two, ExpAt, NameAt}
-use Rattle.parser.specs.Promises.{Ready, Made, Moves}
+use Rattle.parser.specs.Promises.{Made, Moves}
 use Rattle.parser.proofs.Tables.{length_nodes}
 
 -- From s to q the words and the nodes made before stay.
@@ -54,9 +54,9 @@ module _ (s q : Parser) (m : Keeps s q) where
   name_stays x i lt h = (h.0, m.kept i lt ∙ h.1, named_stays h.0 x h.2)
 
 -- The node that was made stands at its place.
-pub made_node : (n : Node) (i : ℕ) (s q : Parser) → Ready s → s.made < s.at → Made n i s q → node (view q) i ≡ n
-made_node n i s q h paid t =
-    ap (λ (l : List Node). get_or l i Empty) t.nodes ∙ (ap (λ j. get_or (set (nodes s.table.now) s.made n) j Empty) t.place ∙ same (nodes s.table.now) s.made (omega (arith, length_nodes s.table.now, h.within, h.room)))
+pub made_node : (n : Node) (i : ℕ) (s q : Parser) → s.made < s.at → Made n i s q → node (view q) i ≡ n
+made_node n i s q paid t =
+    ap (λ (l : List Node). get_or l i Empty) t.nodes ∙ (ap (λ j. get_or (set (nodes s.table.now) s.made n) j Empty) t.place ∙ same (nodes s.table.now) s.made (omega (arith, length_nodes s.table.now, s.within, s.room)))
   where
     same : (l : List Node) (i : ℕ) → i < length l → get_or (set l i n) i Empty ≡ n
     same l i lt = rw get_or-set_same

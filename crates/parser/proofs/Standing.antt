@@ -7,7 +7,7 @@ use Rattle.parser.specs.declared.node.Node.{Node}
 use Rattle.parser.specs.declared.node.Node.TheVariants.{Subscripted, Progression, More, Labelled, Conditional, Repeated, Assigned, Switched, Input, Printed, Integer, Boolean, Array, Group as GroupNode, Switch}
 use Rattle.parser.specs.declared.table.Parser.{Parser}
 use Rattle.parser.specs.Records.{View, view, node, ExpAt, VariableAt, ElementAt, NameAt, RowAt, StatementAt, GroupAt, Item_at}
-use Rattle.parser.specs.Promises.{Ready, Made, Moves, Spot, here, Goes, Read}
+use Rattle.parser.specs.Promises.{Made, Moves, Spot, here, Goes, Read}
 use Rattle.parser.proofs.Going.{goes_made}
 use Rattle.parser.proofs.Holding.{Keeps, moves_keep, made_keeps, keeps_trans, made_node, named_stays, one_stays, two_stays, exp_stays, name_stays}
 use Rattle.parser.proofs.Rows.{Stays, row_stays}
@@ -82,9 +82,9 @@ stands At stays n m s u q h k t i lt x = record {
 }
 
 -- A part ends with a node that a word has paid for.
-pub made_read : {p : Phrase} {L : ℕ} {r u : Parser} {b : Spot p} {t : Value p} (At : View → Value p → ℕ → Type 0) (n : Node) (m : ℕ) (q : Parser) → Ready r → Goes L r u b (here (done t))
+pub made_read : {p : Phrase} {L : ℕ} {r u : Parser} {b : Spot p} {t : Value p} (At : View → Value p → ℕ → Type 0) (n : Node) (m : ℕ) (q : Parser) → Goes L r u b (here (done t))
     → u.made + r.at < r.made + u.at → Made n m u q → (node (view q) m ≡ n → At (view q) t m) → record { moves : Moves r q; reads : Read At L r q b m }
-made_read {r = r} {u = u} {t = t} At n m q ready g strict made held =
-    let paid : u.made < u.at = omega (arith, ready.thrift) in
+made_read {r = r} {u = u} {t = t} At n m q g strict made held =
+    let paid : u.made < u.at = omega (arith, r.thrift) in
     let g' = goes_made n m q g paid strict made in
-    record { moves = g'.moves; reads = record { tree = t; below = omega (arith, made.place, made.made); held = held (made_node n m u q g.moves.ready paid made); goes = g' } }
+    record { moves = g'.moves; reads = record { tree = t; below = omega (arith, made.place, made.made); held = held (made_node n m u q paid made); goes = g' } }

@@ -5,7 +5,7 @@ ghost use Rattle.grammar.specs.Classes.{heads, the_mark, the_keyword, when};
 ghost use Rattle.grammar.specs.Grammar.{a, row, statement};
 ghost use Rattle.grammar.specs.Parser.{goto, begin};
 ghost use Rattle.parser.specs.Records.{all, ahead, RowAt, StatementAt};
-ghost use Rattle.parser.specs.Promises.{Ready, Moves, Reads, here, in_text, next};
+ghost use Rattle.parser.specs.Promises.{Moves, Reads, here, in_text, next};
 ghost use Rattle.parser.specs.Labels.{is_label, LabelsPassed, LabelsMade};
 
 use crate::node::Node;
@@ -17,7 +17,6 @@ use words::token::{Keyword, Mark};
 impl Parser<'_> {
     // Passes over the labels that come next, and says how many there are.
     fn skip_labels(&mut self) -> usize
-        requires { Ready self.old }
         ensures passed { LabelsPassed self.old self.new result }
         ensures plain { is_label (ahead self.new) ≡ false }
     {
@@ -32,7 +31,6 @@ impl Parser<'_> {
 
     // Puts the labels around a statement, `labels` of them from word `first` on, the last one innermost.
     fn label(&mut self, first: usize, labels: usize, statement: usize) -> usize
-        requires ready { Ready self.old }
         requires behind { first + 2 * labels ≤ self.old.at }
         requires paid { self.old.made + labels ≤ self.old.at }
         requires made { statement < self.old.made }
@@ -50,7 +48,6 @@ impl Parser<'_> {
     // A statement, with its labels.
     #[cycle(block_conditional_repetition_statement_statements_unlabelled)]
     pub(crate) fn statement(&mut self, levels: usize) -> Result<usize, Refusal>
-        requires { Ready self.old }
         ensures moves { Moves self.old self.new }
         ensures reads { Reads StatementAt levels self.old self.new (here (goto (begin (a statement)))) result }
     {
@@ -63,7 +60,6 @@ impl Parser<'_> {
     // A statement behind its labels, by its first word.
     #[cycle(block_conditional_repetition_statement_statements_unlabelled)]
     fn unlabelled(&mut self, levels: usize) -> Result<usize, Refusal>
-        requires ready { Ready self.old }
         requires plain { is_label (ahead self.old) ≡ false }
         ensures moves { Moves self.old self.new }
         ensures reads { Reads StatementAt levels self.old self.new (here (goto (begin (a statement)))) result }
@@ -98,7 +94,6 @@ impl Parser<'_> {
     // `if`, an expression, `;` and a statement.
     #[cycle(block_conditional_repetition_statement_statements_unlabelled)]
     fn conditional(&mut self, levels: usize) -> Result<usize, Refusal>
-        requires ready { Ready self.old }
         requires begins { heads (the_keyword Keyword.If) (ahead self.old) ≡ Some tt }
         ensures moves { Moves self.old self.new }
         ensures reads { Reads StatementAt levels self.old self.new (here (goto (begin (a statement)))) result }
@@ -114,7 +109,6 @@ impl Parser<'_> {
     // `for`, a name, `:=`, elements, `;` and a statement.
     #[cycle(block_conditional_repetition_statement_statements_unlabelled)]
     fn repetition(&mut self, levels: usize) -> Result<usize, Refusal>
-        requires ready { Ready self.old }
         requires begins { heads (the_keyword Keyword.For) (ahead self.old) ≡ Some tt }
         ensures moves { Moves self.old self.new }
         ensures reads { Reads StatementAt levels self.old self.new (here (goto (begin (a statement)))) result }
@@ -132,7 +126,6 @@ impl Parser<'_> {
     // `begin`, statements and `end`.
     #[cycle(block_conditional_repetition_statement_statements_unlabelled)]
     fn block(&mut self, levels: usize) -> Result<usize, Refusal>
-        requires ready { Ready self.old }
         requires begins { heads (the_keyword Keyword.Begin) (ahead self.old) ≡ Some tt }
         ensures moves { Moves self.old self.new }
         ensures reads { Reads StatementAt levels self.old self.new (here (goto (begin (a statement)))) result }
@@ -146,7 +139,6 @@ impl Parser<'_> {
     // Statements, parted by semicolons.
     #[cycle(block_conditional_repetition_statement_statements_unlabelled)]
     fn statements(&mut self, levels: usize) -> Result<usize, Refusal>
-        requires { Ready self.old }
         ensures moves { Moves self.old self.new }
         ensures reads { Reads (RowAt StatementAt) levels self.old self.new (here (goto (begin (row statement)))) result }
     {

@@ -5,7 +5,7 @@ ghost use Rattle.grammar.specs.Tree.{Row, Name, Item};
 ghost use Rattle.grammar.specs.Grammar.{a, row, identifier, group};
 ghost use Rattle.grammar.specs.Parser.{goto, begin, done, names_script};
 ghost use Rattle.parser.specs.Records.{NameAt, RowAt, GroupAt};
-ghost use Rattle.parser.specs.Promises.{Ready, Moves, Reads, Passes, here};
+ghost use Rattle.parser.specs.Promises.{Moves, Reads, Passes, here};
 ghost use Rattle.parser.specs.Pieces.{ReadsBound};
 
 use crate::node::{Bound, Node};
@@ -17,7 +17,6 @@ use words::token::{Mark, Sign};
 impl Parser<'_> {
     // A name.
     pub(crate) fn name(&mut self) -> Result<usize, Refusal>
-        requires { Ready self.old }
         ensures moves { Moves self.old self.new }
         ensures reads { (levels : ℕ) → Reads NameAt levels self.old self.new (here (goto (begin (a identifier)))) result }
     {
@@ -29,7 +28,6 @@ impl Parser<'_> {
 
     // Names, parted by commas.
     pub(crate) fn names(&mut self) -> Result<usize, Refusal>
-        requires { Ready self.old }
         ensures moves { Moves self.old self.new }
         ensures reads { (levels : ℕ) → Reads (RowAt NameAt) levels self.old self.new (here (goto (begin (row identifier)))) result }
     {
@@ -43,7 +41,6 @@ impl Parser<'_> {
 
     // A number, or a sign and a number.
     fn bound(&mut self) -> Result<Bound, Refusal>
-        requires { Ready self.old }
         ensures moves { Moves self.old self.new }
         ensures reads { (levels : ℕ) → ReadsBound levels self.old self.new result }
     {
@@ -60,7 +57,6 @@ impl Parser<'_> {
 
     // Names of arrays, and their bounds in square brackets.
     fn group(&mut self, levels: usize) -> Result<usize, Refusal>
-        requires { Ready self.old }
         ensures moves { Moves self.old self.new }
         ensures reads { Reads GroupAt levels self.old self.new (here (goto (begin (a group)))) result }
     {
@@ -76,7 +72,6 @@ impl Parser<'_> {
 
     // Groups, parted by commas.
     pub(crate) fn groups(&mut self, levels: usize) -> Result<usize, Refusal>
-        requires { Ready self.old }
         ensures moves { Moves self.old self.new }
         ensures reads { Reads (RowAt GroupAt) levels self.old self.new (here (goto (begin (row group)))) result }
     {
@@ -90,7 +85,6 @@ impl Parser<'_> {
 
     // Names in brackets.
     pub(crate) fn bracketed_names(&mut self, levels: usize) -> Result<usize, Refusal>
-        requires { Ready self.old }
         ensures moves { Moves self.old self.new }
         ensures reads { (f : Row Name → Item) → Passes (RowAt NameAt) levels self.old self.new (here (names_script f)) (λ xs. here (done (f xs))) result }
     {

@@ -4,7 +4,7 @@ ghost use Rattle.std.specs.Prelude.{◌≡◌, ℕ};
 ghost use Rattle.grammar.specs.Grammar.{a, row, exp, element};
 ghost use Rattle.grammar.specs.Parser.{goto, begin};
 ghost use Rattle.parser.specs.Records.{ExpAt, ElementAt, RowAt};
-ghost use Rattle.parser.specs.Promises.{Ready, Moves, Reads, here};
+ghost use Rattle.parser.specs.Promises.{Moves, Reads, here};
 
 use crate::node::Node;
 use crate::refusal::Refusal;
@@ -14,7 +14,6 @@ use words::token::Mark;
 impl Parser<'_> {
     // An expression, or a progression: from, step in brackets, limit.
     fn element(&mut self, levels: usize) -> Result<usize, Refusal>
-        requires { Ready self.old }
         ensures moves { Moves self.old self.new }
         ensures reads { Reads ElementAt levels self.old self.new (here (goto (begin (a element)))) result }
     {
@@ -31,7 +30,6 @@ impl Parser<'_> {
 
     // Elements, parted by commas.
     pub(crate) fn elements(&mut self, levels: usize) -> Result<usize, Refusal>
-        requires { Ready self.old }
         ensures moves { Moves self.old self.new }
         ensures reads { Reads (RowAt ElementAt) levels self.old self.new (here (goto (begin (row element)))) result }
     {
@@ -45,7 +43,6 @@ impl Parser<'_> {
 
     // Expressions, parted by commas.
     pub(crate) fn expressions(&mut self, levels: usize) -> Result<usize, Refusal>
-        requires { Ready self.old }
         ensures moves { Moves self.old self.new }
         ensures reads { Reads (RowAt ExpAt) levels self.old self.new (here (goto (begin (row exp)))) result }
     {

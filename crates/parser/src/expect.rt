@@ -2,7 +2,7 @@
 
 ghost use Rattle.std.specs.Prelude.{◌≡◌, ◌<◌};
 ghost use Rattle.grammar.specs.Classes.{the_mark, the_keyword};
-ghost use Rattle.parser.specs.Promises.{Ready, Moves};
+ghost use Rattle.parser.specs.Promises.{Moves};
 ghost use Rattle.parser.specs.Expecting.{Expects, ExpectsName, ExpectsNumber, Opens, OpensMark};
 
 use crate::refusal::Refusal;
@@ -13,7 +13,6 @@ use words::token::{Keyword, Mark};
 impl Parser<'_> {
     // Takes the mark, which has to come.
     pub(crate) fn expect_mark(&mut self, m: Mark) -> Result<(), Refusal>
-        requires { Ready self.old }
         ensures moves { Moves self.old self.new }
         ensures took { Expects (the_mark m) tt self.old self.new result }
     {
@@ -26,7 +25,6 @@ impl Parser<'_> {
 
     // Takes the reserved word, which has to come.
     pub(crate) fn expect_keyword(&mut self, k: Keyword) -> Result<(), Refusal>
-        requires { Ready self.old }
         ensures moves { Moves self.old self.new }
         ensures took { Expects (the_keyword k) tt self.old self.new result }
     {
@@ -39,7 +37,6 @@ impl Parser<'_> {
 
     // Takes a name, which has to come, and says which word it is.
     pub(crate) fn expect_name(&mut self) -> Result<usize, Refusal>
-        requires { Ready self.old }
         ensures moves { Moves self.old self.new }
         ensures took { ExpectsName self.old self.new result }
     {
@@ -54,7 +51,6 @@ impl Parser<'_> {
 
     // Takes a number, which has to come.
     pub(crate) fn expect_number(&mut self) -> Result<u32, Refusal>
-        requires { Ready self.old }
         ensures moves { Moves self.old self.new }
         ensures took { ExpectsNumber self.old self.new result }
     {
@@ -69,7 +65,6 @@ impl Parser<'_> {
 
     // Takes the next word, which opens a level, and says how many levels are left behind it.
     pub(crate) fn open(&mut self, levels: usize) -> Result<usize, Refusal>
-        requires ready { Ready self.old }
         requires left { self.old.at < self.old.count }
         ensures moves { Moves self.old self.new }
         ensures opens { Opens levels self.old self.new result }
@@ -83,7 +78,6 @@ impl Parser<'_> {
 
     // Takes the bracket, which has to come, and says how many levels are left behind it.
     pub(crate) fn open_mark(&mut self, m: Mark, levels: usize) -> Result<usize, Refusal>
-        requires { Ready self.old }
         ensures moves { Moves self.old self.new }
         ensures opens { OpensMark m levels self.old self.new result }
     {

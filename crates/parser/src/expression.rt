@@ -6,7 +6,7 @@ ghost use Rattle.grammar.specs.Grammar.{a, ranked, factor, variable};
 ghost use Rattle.grammar.specs.Parser.{goto, begin, operators};
 ghost use Rattle.grammar.specs.Tree.{Exp};
 ghost use Rattle.parser.specs.Records.{ahead, view, ExpAt, VariableAt};
-ghost use Rattle.parser.specs.Promises.{Ready, Moves, Reads, here};
+ghost use Rattle.parser.specs.Promises.{Moves, Reads, here};
 
 use crate::node::Node;
 use crate::refusal::Refusal;
@@ -18,7 +18,6 @@ impl Parser<'_> {
     // An expression of rank `rank`.
     #[cycle(bracket_expression_factor_operated_variable)]
     pub(crate) fn expression(&mut self, rank: usize, levels: usize) -> Result<usize, Refusal>
-        requires { Ready self.old }
         ensures moves { Moves self.old self.new }
         ensures reads { Reads ExpAt levels self.old self.new (here (goto (begin (a (ranked rank))))) result }
     {
@@ -41,7 +40,6 @@ impl Parser<'_> {
         first: usize,
         levels: usize,
     ) -> Result<usize, Refusal>
-        requires ready { Ready self.old }
         requires made { first < self.old.made }
         ensures moves { Moves self.old self.new }
         ensures reads { (x : Exp) → ExpAt (view self.old) x first → Reads ExpAt levels self.old self.new (here (goto (operators rank bound x))) result }
@@ -59,7 +57,6 @@ impl Parser<'_> {
     // A number, a variable, or an expression or a comparison in brackets.
     #[cycle(bracket_expression_factor_operated_variable)]
     fn factor(&mut self, levels: usize) -> Result<usize, Refusal>
-        requires { Ready self.old }
         ensures moves { Moves self.old self.new }
         ensures reads { Reads ExpAt levels self.old self.new (here (goto (begin (a factor)))) result }
     {
@@ -75,7 +72,6 @@ impl Parser<'_> {
 
     #[cycle(bracket_expression_factor_operated_variable)]
     fn bracket(&mut self, levels: usize) -> Result<usize, Refusal>
-        requires ready { Ready self.old }
         requires opens { heads (the_mark Mark.OpenRound) (ahead self.old) ≡ Some tt }
         ensures moves { Moves self.old self.new }
         ensures reads { Reads ExpAt levels self.old self.new (here (goto (begin (a factor)))) result }
@@ -102,7 +98,6 @@ impl Parser<'_> {
     // A name, or an array's element.
     #[cycle(bracket_expression_factor_operated_variable)]
     pub(crate) fn variable(&mut self, levels: usize) -> Result<usize, Refusal>
-        requires { Ready self.old }
         ensures moves { Moves self.old self.new }
         ensures reads { Reads VariableAt levels self.old self.new (here (goto (begin (a variable)))) result }
     {

@@ -5,7 +5,7 @@ ghost use Rattle.grammar.specs.Classes.{heads, the_keyword};
 ghost use Rattle.grammar.specs.Grammar.{a, row, item};
 ghost use Rattle.grammar.specs.Parser.{goto, begin};
 ghost use Rattle.parser.specs.Records.{ahead, RowAt, Item_at};
-ghost use Rattle.parser.specs.Promises.{Ready, Moves, Read, Reads, here};
+ghost use Rattle.parser.specs.Promises.{Moves, Read, Reads, here};
 ghost use Rattle.parser.specs.Whole.{ReadsProgram};
 
 use crate::node::Node;
@@ -17,7 +17,6 @@ use words::token::{Keyword, Mark};
 impl Parser<'_> {
     // A comment, a declaration or a statement, by its first word.
     fn item(&mut self, levels: usize) -> Result<usize, Refusal>
-        requires { Ready self.old }
         ensures moves { Moves self.old self.new }
         ensures reads { Reads Item_at levels self.old self.new (here (goto (begin (a item)))) result }
     {
@@ -41,7 +40,6 @@ impl Parser<'_> {
 
     // `comment`, with what it skips.
     fn comment(&mut self) -> usize
-        requires ready { Ready self.old }
         requires begins { heads (the_keyword Keyword.Comment) (ahead self.old) ≡ Some tt }
         ensures moves { Moves self.old self.new }
         ensures reads { (levels : ℕ) → Read Item_at levels self.old self.new (here (goto (begin (a item)))) result }
@@ -52,7 +50,6 @@ impl Parser<'_> {
 
     // `integer` and names in brackets.
     fn integers(&mut self, levels: usize) -> Result<usize, Refusal>
-        requires ready { Ready self.old }
         requires begins { heads (the_keyword Keyword.Integer) (ahead self.old) ≡ Some tt }
         ensures moves { Moves self.old self.new }
         ensures reads { Reads Item_at levels self.old self.new (here (goto (begin (a item)))) result }
@@ -64,7 +61,6 @@ impl Parser<'_> {
 
     // `boolean` and names in brackets.
     fn booleans(&mut self, levels: usize) -> Result<usize, Refusal>
-        requires ready { Ready self.old }
         requires begins { heads (the_keyword Keyword.Boolean) (ahead self.old) ≡ Some tt }
         ensures moves { Moves self.old self.new }
         ensures reads { Reads Item_at levels self.old self.new (here (goto (begin (a item)))) result }
@@ -76,7 +72,6 @@ impl Parser<'_> {
 
     // `array` and groups in brackets.
     fn arrays(&mut self, levels: usize) -> Result<usize, Refusal>
-        requires ready { Ready self.old }
         requires begins { heads (the_keyword Keyword.Array) (ahead self.old) ≡ Some tt }
         ensures moves { Moves self.old self.new }
         ensures reads { Reads Item_at levels self.old self.new (here (goto (begin (a item)))) result }
@@ -90,7 +85,6 @@ impl Parser<'_> {
 
     // `switch`, a name, `:=` and labels in brackets.
     fn switch(&mut self, levels: usize) -> Result<usize, Refusal>
-        requires ready { Ready self.old }
         requires begins { heads (the_keyword Keyword.Switch) (ahead self.old) ≡ Some tt }
         ensures moves { Moves self.old self.new }
         ensures reads { Reads Item_at levels self.old self.new (here (goto (begin (a item)))) result }
@@ -104,7 +98,6 @@ impl Parser<'_> {
 
     // Items, parted by semicolons.
     fn items(&mut self, levels: usize) -> Result<usize, Refusal>
-        requires { Ready self.old }
         ensures moves { Moves self.old self.new }
         ensures reads { Reads (RowAt Item_at) levels self.old self.new (here (goto (begin (row item)))) result }
     {
@@ -118,7 +111,6 @@ impl Parser<'_> {
 
     // A whole program: items, and then no word more.
     pub(crate) fn program(&mut self, levels: usize) -> Result<usize, Refusal>
-        requires { Ready self.old }
         ensures moves { Moves self.old self.new }
         ensures reads { ReadsProgram levels self.old self.new result }
     {

@@ -6,7 +6,7 @@ ghost use Rattle.grammar.specs.Classes.{heads, the_keyword, a_name};
 ghost use Rattle.grammar.specs.Grammar.{Phrase, a, statement};
 ghost use Rattle.grammar.specs.Parser.{goto, begin, Script};
 ghost use Rattle.parser.specs.Records.{ahead, ExpAt, VariableAt, StatementAt};
-ghost use Rattle.parser.specs.Promises.{Ready, Moves, Read, Reads, Passes, here, instead};
+ghost use Rattle.parser.specs.Promises.{Moves, Read, Reads, Passes, here, instead};
 ghost use Rattle.parser.specs.Pieces.{subscript_script, assigning};
 ghost use Rattle.parser.specs.Labels.{is_label};
 
@@ -18,7 +18,6 @@ use words::token::{Keyword, Mark};
 impl Parser<'_> {
     // An expression in square brackets.
     fn subscript(&mut self, levels: usize) -> Result<usize, Refusal>
-        requires { Ready self.old }
         ensures moves { Moves self.old self.new }
         ensures reads { (p : Phrase) (f : Exp → Script p) → Passes ExpAt levels self.old self.new (here (subscript_script f)) (λ i. here (f i)) result }
     {
@@ -30,7 +29,6 @@ impl Parser<'_> {
 
     // The variable that is assigned to, whose name is the next word.
     fn target(&mut self, name: usize, levels: usize) -> Result<usize, Refusal>
-        requires ready { Ready self.old }
         requires named { Some name ≡ instead self.old.at (heads a_name (ahead self.old)) }
         requires plain { is_label (ahead self.old) ≡ false }
         ensures moves { Moves self.old self.new }
@@ -46,7 +44,6 @@ impl Parser<'_> {
 
     // A variable, `:=` and an expression.
     pub(crate) fn assignment(&mut self, name: usize, levels: usize) -> Result<usize, Refusal>
-        requires ready { Ready self.old }
         requires named { Some name ≡ instead self.old.at (heads a_name (ahead self.old)) }
         requires plain { is_label (ahead self.old) ≡ false }
         ensures moves { Moves self.old self.new }
@@ -60,7 +57,6 @@ impl Parser<'_> {
 
     // `go to` and a label, or a switch and its subscript.
     pub(crate) fn jump(&mut self, levels: usize) -> Result<usize, Refusal>
-        requires ready { Ready self.old }
         requires begins { heads (the_keyword Keyword.Go) (ahead self.old) ≡ Some tt }
         ensures moves { Moves self.old self.new }
         ensures reads { Reads StatementAt levels self.old self.new (here (goto (begin (a statement)))) result }
@@ -78,7 +74,6 @@ impl Parser<'_> {
 
     // `in =:` and a variable in brackets.
     pub(crate) fn input(&mut self, levels: usize) -> Result<usize, Refusal>
-        requires ready { Ready self.old }
         requires begins { heads (the_keyword Keyword.In) (ahead self.old) ≡ Some tt }
         ensures moves { Moves self.old self.new }
         ensures reads { Reads StatementAt levels self.old self.new (here (goto (begin (a statement)))) result }
@@ -94,7 +89,6 @@ impl Parser<'_> {
 
     // `print` and expressions in brackets.
     pub(crate) fn print(&mut self, levels: usize) -> Result<usize, Refusal>
-        requires ready { Ready self.old }
         requires begins { heads (the_keyword Keyword.Print) (ahead self.old) ≡ Some tt }
         ensures moves { Moves self.old self.new }
         ensures reads { Reads StatementAt levels self.old self.new (here (goto (begin (a statement)))) result }
@@ -109,7 +103,6 @@ impl Parser<'_> {
 
     // `stop`.
     pub(crate) fn stop(&mut self) -> usize
-        requires ready { Ready self.old }
         requires begins { heads (the_keyword Keyword.Stop) (ahead self.old) ≡ Some tt }
         ensures moves { Moves self.old self.new }
         ensures reads { (levels : ℕ) → Read StatementAt levels self.old self.new (here (goto (begin (a statement)))) result }

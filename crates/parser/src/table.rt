@@ -29,6 +29,7 @@ impl WordSlot for Record {
 }
 
 // The text, the table with its words first, how many words there are, how many are taken, and how many nodes are made.
+// The words stand in the table, no more are taken than there are, and no more nodes are made than words were taken.
 #[derive(Drop)]
 pub struct Parser<'a> {
     pub text: &'a [u8],

@@ -6,7 +6,7 @@ ghost use Rattle.words.specs.Token.{keyword};
 ghost use Rattle.words.specs.Records.{token_in};
 ghost use Rattle.parser.specs.Records.{all, ahead};
 ghost use Rattle.parser.specs.Labels.{is_label};
-ghost use Rattle.parser.specs.Promises.{Ready, Took, Made, instead, next, in_text, place_of};
+ghost use Rattle.parser.specs.Promises.{Took, Made, instead, next, in_text, place_of};
 
 use crate::node::Node;
 use crate::refusal::Refusal;
@@ -80,7 +80,6 @@ fn operator_of(t: Token) -> Option<Operator>
 impl Parser<'_> {
     // Word `i`, where there is one.
     fn word_at(&self, i: usize) -> Option<Word>
-        requires { Ready self.now }
         ensures { in_text self.now.text.now result ≡ next (drop i (all self.now)) }
     {
         if i < self.count {
@@ -92,7 +91,6 @@ impl Parser<'_> {
 
     // The next word.
     fn peek(&self) -> Option<Word>
-        requires { Ready self.now }
         ensures { in_text self.now.text.now result ≡ next (ahead self.now) }
     {
         self.word_at(self.at)
@@ -100,7 +98,6 @@ impl Parser<'_> {
 
     // Is word `i` the mark?
     fn word_is_mark(&self, i: usize, m: Mark) -> bool
-        requires { Ready self.now }
         ensures { heads (the_mark m) (drop i (all self.now)) ≡ when result tt }
     {
         match self.word_at(i) {
@@ -116,7 +113,6 @@ impl Parser<'_> {
 
     // The refusal at the next word, or at the text's end.
     pub(crate) fn refuse(&self, reason: SentenceRefusal) -> Refusal
-        requires { Ready self.now }
         ensures reason { result.reason ≡ reason }
         ensures place { result.place ≡ place_of (length self.now.text.now) (ahead self.now) }
     {
@@ -134,7 +130,6 @@ impl Parser<'_> {
 
     // The place of the next word, or the text's end.
     pub(crate) fn place(&self) -> usize
-        requires { Ready self.now }
         ensures { result ≡ place_of (length self.now.text.now) (ahead self.now) }
     {
         match self.peek() {
@@ -145,7 +140,6 @@ impl Parser<'_> {
 
     // Is the next word the mark?
     pub(crate) fn next_is_mark(&self, m: Mark) -> bool
-        requires { Ready self.now }
         ensures { heads (the_mark m) (ahead self.now) ≡ when result tt }
     {
         self.word_is_mark(self.at, m)
@@ -153,7 +147,6 @@ impl Parser<'_> {
 
     // Is the next word the reserved word?
     pub(crate) fn next_is_keyword(&self, k: Keyword) -> bool
-        requires { Ready self.now }
         ensures { heads (the_keyword k) (ahead self.now) ≡ when result tt }
     {
         match self.peek() {
@@ -169,7 +162,6 @@ impl Parser<'_> {
 
     // The number of the next word, if it is a name.
     pub(crate) fn next_name(&self) -> Option<usize>
-        requires { Ready self.now }
         ensures { result ≡ instead self.now.at (heads a_name (ahead self.now)) }
     {
         match self.peek() {
@@ -184,7 +176,6 @@ impl Parser<'_> {
     }
 
     pub(crate) fn next_number(&self) -> Option<u32>
-        requires { Ready self.now }
         ensures { result ≡ heads a_number (ahead self.now) }
     {
         match self.peek() {
@@ -199,7 +190,6 @@ impl Parser<'_> {
     }
 
     fn next_sign(&self) -> Option<Sign>
-        requires { Ready self.now }
         ensures { result ≡ heads a_sign (ahead self.now) }
     {
         match self.peek() {
@@ -214,7 +204,6 @@ impl Parser<'_> {
     }
 
     fn next_relation(&self) -> Option<Relation>
-        requires { Ready self.now }
         ensures { result ≡ heads a_relation (ahead self.now) }
     {
         match self.peek() {
@@ -230,7 +219,6 @@ impl Parser<'_> {
 
     // The next word as an operator before an operand of rank `rank` at least.
     fn next_prefix(&self, rank: usize) -> Option<Prefix>
-        requires { Ready self.now }
         ensures { result ≡ heads (a_prefix rank) (ahead self.now) }
     {
         match self.peek() {
@@ -258,7 +246,6 @@ impl Parser<'_> {
 
     // The next word as an operator of rank `rank` to `bound`.
     fn next_operator(&self, rank: usize, bound: usize) -> Option<Operator>
-        requires { Ready self.now }
         ensures { result ≡ heads (an_operator rank bound) (ahead self.now) }
     {
         match self.peek() {
@@ -269,7 +256,6 @@ impl Parser<'_> {
 
     // Is the word behind the next one the mark?
     fn second_is_mark(&self, m: Mark) -> bool
-        requires { Ready self.now }
         ensures { heads (the_mark m) (drop (self.now.at + 1) (all self.now)) ≡ when result tt }
     {
         if self.at < self.count {
@@ -281,7 +267,6 @@ impl Parser<'_> {
 
     // Do a name and a colon come next?
     pub(crate) fn next_is_label(&self) -> bool
-        requires { Ready self.now }
         ensures { result ≡ is_label (ahead self.now) }
     {
         match self.next_name() {
@@ -292,20 +277,16 @@ impl Parser<'_> {
 
     // Passes over the next word.
     pub(crate) fn skip(&mut self)
-        requires ready { Ready self.old }
         requires left { self.old.at < self.old.count }
         ensures took { Took true self.old self.new }
-        ensures ready { Ready self.new }
     {
         self.at += 1;
     }
 
     // Passes over the next word if it is the mark.
     pub(crate) fn take_mark(&mut self, m: Mark) -> bool
-        requires { Ready self.old }
         ensures is { heads (the_mark m) (ahead self.old) ≡ when result tt }
         ensures took { Took result self.old self.new }
-        ensures ready { Ready self.new }
     {
         if self.next_is_mark(m) {
             self.skip();
@@ -317,10 +298,8 @@ impl Parser<'_> {
 
     // Passes over the next word if it is the reserved word.
     pub(crate) fn take_keyword(&mut self, k: Keyword) -> bool
-        requires { Ready self.old }
         ensures is { heads (the_keyword k) (ahead self.old) ≡ when result tt }
         ensures took { Took result self.old self.new }
-        ensures ready { Ready self.new }
     {
         if self.next_is_keyword(k) {
             self.skip();
@@ -332,10 +311,8 @@ impl Parser<'_> {
 
     // Passes over the next word if it is a name, and says which word it is.
     pub(crate) fn take_name(&mut self) -> Option<usize>
-        requires { Ready self.old }
         ensures is { result ≡ instead self.old.at (heads a_name (ahead self.old)) }
         ensures took { Took (is_some result) self.old self.new }
-        ensures ready { Ready self.new }
     {
         let found = self.next_name();
         if found.is_some() {
@@ -346,10 +323,8 @@ impl Parser<'_> {
 
     // Passes over the next word if it is a number.
     pub(crate) fn take_number(&mut self) -> Option<u32>
-        requires { Ready self.old }
         ensures is { result ≡ heads a_number (ahead self.old) }
         ensures took { Took (is_some result) self.old self.new }
-        ensures ready { Ready self.new }
     {
         let found = self.next_number();
         if found.is_some() {
@@ -360,10 +335,8 @@ impl Parser<'_> {
 
     // Passes over the next word if it is a sign.
     pub(crate) fn take_sign(&mut self) -> Option<Sign>
-        requires { Ready self.old }
         ensures is { result ≡ heads a_sign (ahead self.old) }
         ensures took { Took (is_some result) self.old self.new }
-        ensures ready { Ready self.new }
     {
         let found = self.next_sign();
         if found.is_some() {
@@ -374,10 +347,8 @@ impl Parser<'_> {
 
     // Passes over the next word if it is a relation.
     pub(crate) fn take_relation(&mut self) -> Option<Relation>
-        requires { Ready self.old }
         ensures is { result ≡ heads a_relation (ahead self.old) }
         ensures took { Took (is_some result) self.old self.new }
-        ensures ready { Ready self.new }
     {
         let found = self.next_relation();
         if found.is_some() {
@@ -388,10 +359,8 @@ impl Parser<'_> {
 
     // Passes over the next word if it is an operator before an operand, of rank `rank` at least.
     pub(crate) fn take_prefix(&mut self, rank: usize) -> Option<Prefix>
-        requires { Ready self.old }
         ensures is { result ≡ heads (a_prefix rank) (ahead self.old) }
         ensures took { Took (is_some result) self.old self.new }
-        ensures ready { Ready self.new }
     {
         let found = self.next_prefix(rank);
         if found.is_some() {
@@ -402,10 +371,8 @@ impl Parser<'_> {
 
     // Passes over the next word if it is an operator of rank `rank` to `bound`.
     pub(crate) fn take_operator(&mut self, rank: usize, bound: usize) -> Option<Operator>
-        requires { Ready self.old }
         ensures is { result ≡ heads (an_operator rank bound) (ahead self.old) }
         ensures took { Took (is_some result) self.old self.new }
-        ensures ready { Ready self.new }
     {
         let found = self.next_operator(rank, bound);
         if found.is_some() {
@@ -416,7 +383,6 @@ impl Parser<'_> {
 
     // Puts a node into the table.
     pub(crate) fn make(&mut self, node: Node) -> usize
-        requires ready { Ready self.old }
         requires paid { self.old.made < self.old.at }
         ensures { Made node result self.old self.new }
     {

@@ -13,13 +13,13 @@ use Rattle.parser.proofs.Factors.{goes_as_variable, goes_as_factor, variable_rea
 use Rattle.parser.proofs.table.Parser.+bracket_expression_factor_operated_variable.Goals as goal
 
 pub bracket-skip-requires : goal.bracket-skip-requires
-bracket-skip-requires t c = record { ready = c.requires.ready; left = word_left (the_mark OpenRound) tt c.args.self.now c.requires.opens }
+bracket-skip-requires t c = record { left = word_left (the_mark OpenRound) tt c.args.self.now c.requires.opens }
 
 pub bracket-returns-in_err-left : goal.bracket-returns-in_err-left
 bracket-returns-in_err-left t c =
     let p = err_from_is_err_and c.from_residual.result c.from_residual.ensures.1 in
     let le : 1 ≤ c.args.levels = omega (arith, c.if-levels-eq0.false) in
-    let g = bracket_opened c.args.levels c.args.self.now c.skip.new.self c.requires.ready c.requires.opens le c.skip.ensures.took in
+    let g = bracket_opened c.args.levels c.args.self.now c.skip.new.self c.requires.opens le c.skip.ensures.took in
     record {
       moves = moves_trans c.args.self.now c.skip.new.self c.expression.new.self g.moves c.expression.ensures.moves;
       reads = rw (p.1, p.2) (fails_part_deeper _ tt le g c.in_err-left.ensures.reads);
@@ -29,7 +29,7 @@ pub bracket-returns-in_err-right : goal.bracket-returns-in_err-right
 bracket-returns-in_err-right t c =
     let p = err_from_is_err_and c.from_residual-in_err-right.result c.from_residual-in_err-right.ensures.1 in
     let le : 1 ≤ c.args.levels = omega (arith, c.if-levels-eq0.false) in
-    let g = comparison_begun c.args.levels c.args.self.now c.skip.new.self c.requires.ready c.requires.opens le c.skip.ensures.took
+    let g = comparison_begun c.args.levels c.args.self.now c.skip.new.self c.requires.opens le c.skip.ensures.took
     c.expression.new.self c.in_ok-left.left c.in_ok-left.ensures.reads c.take_relation.new.self c.in-Some.r (sym c.in-Some.ensures.is) c.in-Some.ensures.took in
     record {
       moves = moves_trans c.args.self.now c.take_relation.new.self c.expression-in-Some.new.self g.moves c.expression-in-Some.ensures.moves;
@@ -39,7 +39,7 @@ bracket-returns-in_err-right t c =
 pub bracket-returns-then-not-take_mark : goal.bracket-returns-then-not-take_mark
 bracket-returns-then-not-take_mark t c =
     let le : 1 ≤ c.args.levels = omega (arith, c.if-levels-eq0.false) in
-    comparison_unclosed c.args.levels c.args.self.now c.skip.new.self c.requires.ready c.requires.opens le c.skip.ensures.took
+    comparison_unclosed c.args.levels c.args.self.now c.skip.new.self c.requires.opens le c.skip.ensures.took
     c.expression.new.self c.in_ok-left.left c.in_ok-left.ensures.reads c.take_relation.new.self c.in-Some.r (sym c.in-Some.ensures.is) c.in-Some.ensures.took
     c.expression-in-Some.new.self c.in_ok-right.right c.in_ok-right.ensures.reads c.take_mark.new.self c.refuse-then-not-take_mark.result
     c.if-not-take_mark.ensures.is c.if-not-take_mark.ensures.took c.refuse-then-not-take_mark.ensures.reason c.refuse-then-not-take_mark.ensures.place
@@ -47,7 +47,7 @@ bracket-returns-then-not-take_mark t c =
 pub bracket-returns-in-Some : goal.bracket-returns-in-Some
 bracket-returns-in-Some t c =
     let le : 1 ≤ c.args.levels = omega (arith, c.if-levels-eq0.false) in
-    comparison_closed c.args.levels c.args.self.now c.skip.new.self c.requires.ready c.requires.opens le c.skip.ensures.took
+    comparison_closed c.args.levels c.args.self.now c.skip.new.self c.requires.opens le c.skip.ensures.took
     c.expression.new.self c.in_ok-left.left c.in_ok-left.ensures.reads c.take_relation.new.self c.in-Some.r (sym c.in-Some.ensures.is) c.in-Some.ensures.took
     c.expression-in-Some.new.self c.in_ok-right.right c.in_ok-right.ensures.reads c.take_mark.new.self c.make.new.self c.place-place.result c.make.result
     c.if-not-take_mark.ensures.is c.if-not-take_mark.ensures.took c.place-place.ensures c.make.ensures
@@ -55,7 +55,7 @@ bracket-returns-in-Some t c =
 pub bracket-returns-then-not-take_mark-2 : goal.bracket-returns-then-not-take_mark-2
 bracket-returns-then-not-take_mark-2 t c =
     let le : 1 ≤ c.args.levels = omega (arith, c.if-levels-eq0.false) in
-    bracket_unclosed c.args.levels c.args.self.now c.skip.new.self c.requires.ready c.requires.opens le c.skip.ensures.took
+    bracket_unclosed c.args.levels c.args.self.now c.skip.new.self c.requires.opens le c.skip.ensures.took
     c.expression.new.self c.in_ok-left.left c.in_ok-left.ensures.reads c.take_relation.new.self c.take_mark-2.new.self c.refuse-then-not-take_mark-2.result
     (sym c.in_default.ensures.is) c.in_default.ensures.took c.if-not-take_mark-2.ensures.is c.if-not-take_mark-2.ensures.took
     c.refuse-then-not-take_mark-2.ensures.reason c.refuse-then-not-take_mark-2.ensures.place
@@ -63,7 +63,7 @@ bracket-returns-then-not-take_mark-2 t c =
 pub bracket-returns : goal.bracket-returns
 bracket-returns t c =
     let le : 1 ≤ c.args.levels = omega (arith, c.if-levels-eq0.false) in
-    bracket_closed c.args.levels c.args.self.now c.skip.new.self c.requires.ready c.requires.opens le c.skip.ensures.took
+    bracket_closed c.args.levels c.args.self.now c.skip.new.self c.requires.opens le c.skip.ensures.took
     c.expression.new.self c.in_ok-left.left c.in_ok-left.ensures.reads c.take_relation.new.self c.take_mark-2.new.self c.make-2.new.self c.place-place.result c.make-2.result
     c.in_default.ensures.took c.if-not-take_mark-2.ensures.is c.if-not-take_mark-2.ensures.took c.place-place.ensures c.make-2.ensures
 
@@ -72,10 +72,10 @@ expression-returns-in_err-operand t c =
     let p = err_from_is_err_and c.from_residual.result c.from_residual.ensures.1 in
     let r = c.args.self.now in
     let s = c.take_prefix.new.self in
-    let g = prefix_begun c.args.levels r s c.args.rank c.in-Some.o c.requires (sym c.in-Some.ensures.is) c.in-Some.ensures.took in
+    let g = prefix_begun c.args.levels r s c.args.rank c.in-Some.o (sym c.in-Some.ensures.is) c.in-Some.ensures.took in
     record {
       moves = moves_trans r s c.expression.new.self g.moves c.expression.ensures.moves;
-      reads = rw (p.1, p.2) (prefix_fails c.args.levels r s c.args.rank c.in-Some.o c.requires (sym c.in-Some.ensures.is) c.in-Some.ensures.took c.operand_rank.result _ c.operand_rank.ensures c.in_err-operand.ensures.reads);
+      reads = rw (p.1, p.2) (prefix_fails c.args.levels r s c.args.rank c.in-Some.o (sym c.in-Some.ensures.is) c.in-Some.ensures.took c.operand_rank.result _ c.operand_rank.ensures c.in_err-operand.ensures.reads);
     }
 
 pub expression-returns-in-Some : goal.expression-returns-in-Some
@@ -83,7 +83,7 @@ expression-returns-in-Some t c =
     let r = c.args.self.now in
     let s = c.take_prefix.new.self in
     let q = c.make-left.new.self in
-    let x = prefix_read c.args.levels r s c.args.rank c.in-Some.o c.requires (sym c.in-Some.ensures.is) c.in-Some.ensures.took c.expression.new.self q c.operand_rank.result
+    let x = prefix_read c.args.levels r s c.args.rank c.in-Some.o (sym c.in-Some.ensures.is) c.in-Some.ensures.took c.expression.new.self q c.operand_rank.result
     c.in_ok-operand.operand c.place-place.result c.make-left.result c.rank.result c.operand_rank.ensures c.in_ok-operand.ensures.reads c.place-place.ensures c.make-left.ensures c.rank.ensures in
     record {
       moves = moves_trans r q c.operated.new.self x.goes.moves c.operated.ensures.moves;
@@ -95,7 +95,7 @@ expression-returns-in_err-left t c =
     let p = err_from_is_err_and c.from_residual-in_err-left.result c.from_residual-in_err-left.ensures.1 in
     let r = c.args.self.now in
     let s = c.take_prefix.new.self in
-    let g = goes_left s (goes_as_factor c.args.levels r c.requires c.args.rank (sym c.in_default.ensures.is)) c.in_default.ensures.took in
+    let g = goes_left s (goes_as_factor c.args.levels r c.args.rank (sym c.in_default.ensures.is)) c.in_default.ensures.took in
     record { moves = moves_trans r s c.factor.new.self g.moves c.factor.ensures.moves; reads = rw (p.1, p.2) (fails_part _ tt g c.in_err-left.ensures.reads) }
 
 pub expression-returns : goal.expression-returns
@@ -104,7 +104,7 @@ expression-returns t c =
     let s = c.take_prefix.new.self in
     let q = c.factor.new.self in
     let x = c.in_ok-left.ensures.reads in
-    let g = goes_part q c.in_ok-left.left tt (goes_left s (goes_as_factor c.args.levels r c.requires c.args.rank (sym c.in_default.ensures.is)) c.in_default.ensures.took) x in
+    let g = goes_part q c.in_ok-left.left tt (goes_left s (goes_as_factor c.args.levels r c.args.rank (sym c.in_default.ensures.is)) c.in_default.ensures.took) x in
     record {
       moves = moves_trans r q c.operated-2.new.self g.moves c.operated-2.ensures.moves;
       reads = reads_behind ExpAt c.operated-2.new.self c.operated-2.result g (c.operated-2.ensures.reads x.tree x.held);
@@ -112,14 +112,14 @@ expression-returns t c =
 
 pub factor-returns-in-Some : goal.factor-returns-in-Some
 factor-returns-in-Some t c =
-    number_read c.args.levels c.args.self.now c.take_number.new.self c.make.new.self c.in-Some.n c.place-place.result c.make.result c.requires
+    number_read c.args.levels c.args.self.now c.take_number.new.self c.make.new.self c.in-Some.n c.place-place.result c.make.result
     (sym c.in-Some.ensures.is) c.in-Some.ensures.took c.place-place.ensures c.make.ensures
 
 pub factor-returns : goal.factor-returns
 factor-returns t c =
     let r = c.args.self.now in
     let s = c.take_number.new.self in
-    let g = goes_left s (goes_as_variable c.args.levels r c.requires c.if-next_is_mark.ensures (sym c.in_default.ensures.is)) c.in_default.ensures.took in
+    let g = goes_left s (goes_as_variable c.args.levels r c.if-next_is_mark.ensures (sym c.in_default.ensures.is)) c.in_default.ensures.took in
     record {
       moves = moves_trans r s c.variable.new.self g.moves c.variable.ensures.moves;
       reads = variable_reads c.args.levels r s c.variable.new.self c.variable.result g c.variable.ensures.reads;
@@ -132,7 +132,7 @@ operated-returns-in_err-right t c =
     let s = c.loop-o.self in
     let q = c.take_operator.new.self in
     let k : c.rank.result + 1 ≡ suc (rank c.in-Some.o) = ap (λ n. n + 1) c.rank.ensures ∙ add-one (rank c.in-Some.o) in
-    let m : Moves s c.expression.new.self = moves_trans s q c.expression.new.self (moves_took s q c.loop-o.invariant.moves.ready (word_left (an_operator c.args.rank c.loop-o.up_to) c.in-Some.o s (sym c.in-Some.ensures.is)) c.in-Some.ensures.took) c.expression.ensures.moves in
+    let m : Moves s c.expression.new.self = moves_trans s q c.expression.new.self (moves_took s q (word_left (an_operator c.args.rank c.loop-o.up_to) c.in-Some.o s (sym c.in-Some.ensures.is)) c.in-Some.ensures.took) c.expression.ensures.moves in
     record {
       moves = moves_trans r s c.expression.new.self c.loop-o.invariant.moves m;
       reads = λ x y. rw (p.1, p.2) (operators_fail c.args.rank c.args.levels r s q c.args.first c.args.bound c.loop-o.left c.loop-o.up_to c.in-Some.o _ c.loop-o.invariant
@@ -147,7 +147,7 @@ operated-loop-o-preserved t c =
     rw c.rank-up_to.ensures
     (operators_more c.args.rank c.args.levels c.args.self.now c.loop-o.self c.take_operator.new.self c.expression.new.self c.make-left.new.self c.args.first c.args.bound c.loop-o.left c.loop-o.up_to
     c.in-Some.o c.in_ok-right.right c.make-left.result c.loop-o.invariant (sym c.in-Some.ensures.is) tk (rw k at c.in_ok-right.ensures.reads)
-    (omega (arith, c.loop-o.invariant.moves.ready.thrift, tk.at, tk.made, m.thrift)) c.make-left.ensures)
+    (omega (arith, c.loop-o.self.thrift, tk.at, tk.made, m.thrift)) c.make-left.ensures)
 
 pub operated-returns : goal.operated-returns
 operated-returns t c =
@@ -155,16 +155,16 @@ operated-returns t c =
     let s = c.loop-o.self in
     let q = c.take_operator.new.self in
     record {
-      moves = moves_trans r s q c.loop-o.invariant.moves (moves_left s q c.loop-o.invariant.moves.ready c.in_default.ensures.took);
+      moves = moves_trans r s q c.loop-o.invariant.moves (moves_left s q c.in_default.ensures.took);
       reads = λ x y. operators_end c.args.rank c.args.levels r s q c.args.first c.args.bound c.loop-o.left c.loop-o.up_to c.loop-o.invariant (sym c.in_default.ensures.is) c.in_default.ensures.took x y;
     }
 
 pub variable-skip-requires : goal.variable-skip-requires
-variable-skip-requires t c = record { ready = c.in-Some.ensures.ready; left = word_left (the_mark OpenSquare) tt c.take_name.new.self c.if-not-next_is_mark.ensures }
+variable-skip-requires t c = record { left = word_left (the_mark OpenSquare) tt c.take_name.new.self c.if-not-next_is_mark.ensures }
 
 pub variable-returns-then-not-next_is_mark : goal.variable-returns-then-not-next_is_mark
 variable-returns-then-not-next_is_mark t c =
-    whole_read c.args.levels c.args.self.now c.take_name.new.self c.in-Some.name c.requires (name_taken c.args.self.now c.in-Some.name c.in-Some.ensures.is) c.in-Some.ensures.took
+    whole_read c.args.levels c.args.self.now c.take_name.new.self c.in-Some.name (name_taken c.args.self.now c.in-Some.name c.in-Some.ensures.is) c.in-Some.ensures.took
     c.make.new.self c.make.result c.if-not-next_is_mark.ensures c.make.ensures
 
 pub variable-returns-then-levels-eq0 : goal.variable-returns-then-levels-eq0
@@ -173,8 +173,8 @@ variable-returns-then-levels-eq0 t c =
     let s = c.take_name.new.self in
     let n = name_taken r c.in-Some.name c.in-Some.ensures.is in
     record {
-      moves = moves_took r s c.requires (word_left a_name n.letters r n.next) c.in-Some.ensures.took;
-      reads = variable_deep c.args.levels r s c.in-Some.name c.requires n c.in-Some.ensures.took c.refuse-then-levels-eq0.result c.if-levels-eq0.true c.if-not-next_is_mark.ensures
+      moves = moves_took r s (word_left a_name n.letters r n.next) c.in-Some.ensures.took;
+      reads = variable_deep c.args.levels r s c.in-Some.name n c.in-Some.ensures.took c.refuse-then-levels-eq0.result c.if-levels-eq0.true c.if-not-next_is_mark.ensures
           c.refuse-then-levels-eq0.ensures.reason c.refuse-then-levels-eq0.ensures.place;
     }
 
@@ -183,7 +183,7 @@ variable-returns-in_err-subscript t c =
     let p = err_from_is_err_and c.from_residual.result c.from_residual.ensures.1 in
     let r = c.args.self.now in
     let le : 1 ≤ c.args.levels = omega (arith, c.if-levels-eq0.false) in
-    let g = subscript_begun c.args.levels r c.take_name.new.self c.in-Some.name c.requires (name_taken r c.in-Some.name c.in-Some.ensures.is) c.in-Some.ensures.took
+    let g = subscript_begun c.args.levels r c.take_name.new.self c.in-Some.name (name_taken r c.in-Some.name c.in-Some.ensures.is) c.in-Some.ensures.took
     c.skip.new.self le c.if-not-next_is_mark.ensures c.skip.ensures.took in
     record {
       moves = moves_trans r c.skip.new.self c.expression.new.self g.moves c.expression.ensures.moves;
@@ -194,7 +194,7 @@ pub variable-returns-then-not-take_mark : goal.variable-returns-then-not-take_ma
 variable-returns-then-not-take_mark t c =
     let r = c.args.self.now in
     let le : 1 ≤ c.args.levels = omega (arith, c.if-levels-eq0.false) in
-    subscript_unclosed c.args.levels r c.take_name.new.self c.in-Some.name c.requires (name_taken r c.in-Some.name c.in-Some.ensures.is) c.in-Some.ensures.took
+    subscript_unclosed c.args.levels r c.take_name.new.self c.in-Some.name (name_taken r c.in-Some.name c.in-Some.ensures.is) c.in-Some.ensures.took
     c.skip.new.self le c.if-not-next_is_mark.ensures c.skip.ensures.took c.expression.new.self c.in_ok-subscript.subscript c.in_ok-subscript.ensures.reads
     c.take_mark.new.self c.refuse-then-not-take_mark.result c.if-not-take_mark.ensures.is c.if-not-take_mark.ensures.took
     c.refuse-then-not-take_mark.ensures.reason c.refuse-then-not-take_mark.ensures.place
@@ -203,6 +203,6 @@ pub variable-returns : goal.variable-returns
 variable-returns t c =
     let r = c.args.self.now in
     let le : 1 ≤ c.args.levels = omega (arith, c.if-levels-eq0.false) in
-    indexed_read c.args.levels r c.take_name.new.self c.in-Some.name c.requires (name_taken r c.in-Some.name c.in-Some.ensures.is) c.in-Some.ensures.took
+    indexed_read c.args.levels r c.take_name.new.self c.in-Some.name (name_taken r c.in-Some.name c.in-Some.ensures.is) c.in-Some.ensures.took
     c.skip.new.self le c.if-not-next_is_mark.ensures c.skip.ensures.took c.expression.new.self c.in_ok-subscript.subscript c.in_ok-subscript.ensures.reads
     c.take_mark.new.self c.make-2.new.self c.make-2.result c.if-not-take_mark.ensures.is c.if-not-take_mark.ensures.took c.make-2.ensures

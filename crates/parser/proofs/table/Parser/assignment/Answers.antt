@@ -17,9 +17,9 @@ pub returns-in_err-value : goal.returns-in_err-value
 returns-in_err-value c =
     let p = err_from_is_err_and c.from_residual-in_err-value.result c.from_residual-in_err-value.ensures.1 in
     rw (p.1, p.2) (stops_behind c.expression.new.self _ c.expression.ensures.moves tt
-    (assignment_begun c.requires.ready c.in_ok-target.ensures.reads c.in_ok-expect_mark.ensures.took) c.in_err-value.ensures.reads)
+    (assignment_begun c.in_ok-target.ensures.reads c.in_ok-expect_mark.ensures.took) c.in_err-value.ensures.reads)
 
 pub returns : goal.returns
 returns c =
-    assignment_read c.requires.ready c.in_ok-target.ensures.reads c.in_ok-expect_mark.ensures.took
+    assignment_read c.in_ok-target.ensures.reads c.in_ok-expect_mark.ensures.took
     c.expression.new.self c.make.new.self c.in_ok-value.value c.make.result c.in_ok-value.ensures.reads c.make.ensures

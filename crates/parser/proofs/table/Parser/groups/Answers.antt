@@ -10,26 +10,23 @@ returns-in_err-all c =
     let p = err_from_is_err_and c.from_residual.result c.from_residual.ensures.1 in
     record {
       moves = c.group.ensures.moves;
-      reads = rw (p.1, p.2) (row_fails group GroupAt group_stays c.args.levels c.args.self.now _ c.requires c.in_err-all.ensures.reads);
+      reads = rw (p.1, p.2) (row_fails group GroupAt group_stays c.args.levels c.args.self.now _ c.in_err-all.ensures.reads);
     }
 
 pub loop-self-init : goal.loop-self-init
-loop-self-init c = row_none group GroupAt group_stays c.args.levels c.group.new.self c.in_ok-all.all c.in_ok-all.ensures.moves.ready c.in_ok-all.ensures.reads.below
-
-pub take_mark-requires : goal.take_mark-requires
-take_mark-requires c = c.loop-self.invariant.moves.ready
+loop-self-init c = row_none group GroupAt group_stays c.args.levels c.group.new.self c.in_ok-all.all c.in_ok-all.ensures.reads.below
 
 pub returns-in_err-another : goal.returns-in_err-another
 returns-in_err-another c =
     let p = err_from_is_err_and c.from_residual-in_err-another.result c.from_residual-in_err-another.ensures.1 in
     rw (p.1, p.2) (row_refused group GroupAt group_stays c.args.levels c.args.self.now c.group.new.self c.in_ok-all.all c.loop-self.self c.loop-self.all
-    c.take_mark.new.self c.group-in-loop-self.new.self _ c.requires c.in_ok-all.ensures.reads c.loop-self.invariant
+    c.take_mark.new.self c.group-in-loop-self.new.self _ c.in_ok-all.ensures.reads c.loop-self.invariant
     c.loop-self-test.ensures.is c.loop-self-test.ensures.took c.group-in-loop-self.ensures.moves c.in_err-another.ensures.reads)
 
 pub make-all-requires : goal.make-all-requires
 make-all-requires c =
-    row_paid group GroupAt group_stays c.args.levels c.group.new.self c.in_ok-all.all c.loop-self.self c.loop-self.all c.take_mark.new.self c.group-in-loop-self.new.self
-    c.loop-self.invariant c.loop-self-test.ensures.took c.in_ok-another.ensures.moves
+    record { paid = row_paid group GroupAt group_stays c.args.levels c.group.new.self c.in_ok-all.all c.loop-self.self c.loop-self.all c.take_mark.new.self c.group-in-loop-self.new.self
+    c.loop-self.invariant c.loop-self-test.ensures.took c.in_ok-another.ensures.moves }
 
 pub loop-self-smaller : goal.loop-self-smaller
 loop-self-smaller c =
@@ -44,4 +41,4 @@ loop-self-preserved c =
 pub returns : goal.returns
 returns c =
     row_ended group GroupAt group_stays c.args.levels c.args.self.now c.group.new.self c.in_ok-all.all c.loop-self.self c.loop-self.all c.take_mark.new.self
-    c.requires c.in_ok-all.ensures.reads c.loop-self.invariant c.loop-self-test.ensures.is c.loop-self-test.ensures.took
+    c.in_ok-all.ensures.reads c.loop-self.invariant c.loop-self-test.ensures.is c.loop-self-test.ensures.took

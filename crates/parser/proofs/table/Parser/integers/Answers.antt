@@ -9,12 +9,12 @@ use Rattle.parser.proofs.Items.{integers_begun, integers_read}
 use Rattle.parser.proofs.table.Parser.integers.Goals as goal
 
 pub skip-requires : goal.skip-requires
-skip-requires c = record { ready = c.requires.ready; left = word_left (the_keyword Integer) tt c.args.self.now c.requires.begins }
+skip-requires c = record { left = word_left (the_keyword Integer) tt c.args.self.now c.requires.begins }
 
 pub returns-in_err-names : goal.returns-in_err-names
 returns-in_err-names c =
     let p = err_from_is_err_and c.from_residual.result c.from_residual.ensures.1 in
-    let g = integers_begun {L = c.args.levels} c.requires.ready c.skip.ensures.took c.requires.begins in
+    let g = integers_begun {L = c.args.levels} c.skip.ensures.took c.requires.begins in
     record {
       moves = moves_trans c.args.self.now c.skip.new.self c.bracketed_names.new.self g.moves c.bracketed_names.ensures.moves;
       reads = rw (p.1, p.2) (fails_here _ g (λ limit d k h. c.in_err-names.ensures.reads integer limit d k h));
@@ -22,4 +22,4 @@ returns-in_err-names c =
 
 pub returns : goal.returns
 returns c =
-    integers_read c.requires.ready c.skip.ensures.took c.bracketed_names.new.self c.make.new.self c.in_ok-names.names c.make.result c.requires.begins (c.in_ok-names.ensures.reads integer) c.make.ensures
+    integers_read c.skip.ensures.took c.bracketed_names.new.self c.make.new.self c.in_ok-names.names c.make.result c.requires.begins (c.in_ok-names.ensures.reads integer) c.make.ensures

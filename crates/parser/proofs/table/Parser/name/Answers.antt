@@ -15,15 +15,15 @@ returns-in-Some c =
     let q = c.make.new.self in
     let t = c.in-Some.ensures.took in
     let n = name_taken r c.in-Some.w c.in-Some.ensures.is in
-    let paid : s.made < s.at = omega (arith, t.at, t.made, c.requires.thrift) in
+    let paid : s.made < s.at = omega (arith, t.at, t.made, c.args.self.now.thrift) in
     let goes = λ (levels : ℕ). goes_made {L = levels} (Simple c.in-Some.w) c.make.result q
-    (goes_word a_name n.letters s (λ b. here (done (record { letters = n.letters; place = b }))) (goes_start c.requires) n.next t refl (λ d b k. refl)) paid (omega (arith, t.at, t.made)) c.make.ensures in
+    (goes_word a_name n.letters s (λ b. here (done (record { letters = n.letters; place = b }))) goes_start n.next t refl (λ d b k. refl)) paid (omega (arith, t.at, t.made)) c.make.ensures in
     record {
       moves = (goes 0).moves;
       reads = λ levels. record {
         tree = _;
         below = omega (arith, c.make.ensures.place, c.make.ensures.made);
-        held = (c.in-Some.w, made_node (Simple c.in-Some.w) c.make.result s q c.in-Some.ensures.ready paid c.make.ensures, n.named q (goes 0).moves.same.words);
+        held = (c.in-Some.w, made_node (Simple c.in-Some.w) c.make.result s q paid c.make.ensures, n.named q (goes 0).moves.same.words);
         goes = goes levels;
       };
     }

@@ -11,28 +11,25 @@ returns-in_err-all c =
     let p = err_from_is_err_and c.from_residual.result c.from_residual.ensures.1 in
     record {
       moves = c.name.ensures.moves;
-      reads = λ levels. rw (p.1, p.2) (row_fails identifier NameAt name_stays levels c.args.self.now _ c.requires (c.in_err-all.ensures.reads levels));
+      reads = λ levels. rw (p.1, p.2) (row_fails identifier NameAt name_stays levels c.args.self.now _ (c.in_err-all.ensures.reads levels));
     }
 
 pub loop-self-init : goal.loop-self-init
 loop-self-init c = λ levels.
-    row_none identifier NameAt name_stays levels c.name.new.self c.in_ok-all.all c.in_ok-all.ensures.moves.ready (c.in_ok-all.ensures.reads levels).below
-
-pub take_mark-requires : goal.take_mark-requires
-take_mark-requires c = (c.loop-self.invariant 0).moves.ready
+    row_none identifier NameAt name_stays levels c.name.new.self c.in_ok-all.all (c.in_ok-all.ensures.reads levels).below
 
 pub returns-in_err-next : goal.returns-in_err-next
 returns-in_err-next c =
     let p = err_from_is_err_and c.from_residual-in_err-next.result c.from_residual-in_err-next.ensures.1 in
     let both = λ (levels : ℕ).
-    row_refused identifier NameAt name_stays levels c.args.self.now c.name.new.self c.in_ok-all.all c.loop-self.self c.loop-self.all c.take_mark.new.self c.name-in-loop-self.new.self _ c.requires
+    row_refused identifier NameAt name_stays levels c.args.self.now c.name.new.self c.in_ok-all.all c.loop-self.self c.loop-self.all c.take_mark.new.self c.name-in-loop-self.new.self _
     (c.in_ok-all.ensures.reads levels) (c.loop-self.invariant levels) c.loop-self-test.ensures.is c.loop-self-test.ensures.took c.name-in-loop-self.ensures.moves (c.in_err-next.ensures.reads levels) in
     record { moves = (both 0).moves; reads = λ levels. rw (p.1, p.2) (both levels).reads }
 
 pub make-all-requires : goal.make-all-requires
 make-all-requires c =
-    row_paid identifier NameAt name_stays 0 c.name.new.self c.in_ok-all.all c.loop-self.self c.loop-self.all c.take_mark.new.self c.name-in-loop-self.new.self
-    (c.loop-self.invariant 0) c.loop-self-test.ensures.took c.in_ok-next.ensures.moves
+    record { paid = row_paid identifier NameAt name_stays 0 c.name.new.self c.in_ok-all.all c.loop-self.self c.loop-self.all c.take_mark.new.self c.name-in-loop-self.new.self
+    (c.loop-self.invariant 0) c.loop-self-test.ensures.took c.in_ok-next.ensures.moves }
 
 pub loop-self-smaller : goal.loop-self-smaller
 loop-self-smaller c =
@@ -48,5 +45,5 @@ pub returns : goal.returns
 returns c =
     let both = λ (levels : ℕ).
     row_ended identifier NameAt name_stays levels c.args.self.now c.name.new.self c.in_ok-all.all c.loop-self.self c.loop-self.all c.take_mark.new.self
-    c.requires (c.in_ok-all.ensures.reads levels) (c.loop-self.invariant levels) c.loop-self-test.ensures.is c.loop-self-test.ensures.took in
+    (c.in_ok-all.ensures.reads levels) (c.loop-self.invariant levels) c.loop-self-test.ensures.is c.loop-self-test.ensures.took in
     record { moves = (both 0).moves; reads = λ levels. (both levels).reads }

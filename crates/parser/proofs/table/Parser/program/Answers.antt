@@ -15,7 +15,7 @@ returns-in_err-root c =
 pub returns-then-self : goal.returns-then-self
 returns-then-self c =
     let s = c.items.new.self in
-    let more = ap length (ahead_cons s.text.now s.count s.at s.table.now (record { word = record { token = Name 0; place = 0 }; symbol = 0; node = Empty }) (omega arith) c.items.ensures.moves.ready.room) in
+    let more = ap length (ahead_cons s.text.now s.count s.at s.table.now (record { word = record { token = Name 0; place = 0 }; symbol = 0; node = Empty }) (omega arith) s.room) in
     record {
       moves = c.items.ensures.moves;
       reads = program_refused c.in_ok-root.ensures.reads c.refuse.result (omega (arith, more)) c.refuse.ensures.reason c.refuse.ensures.place;
