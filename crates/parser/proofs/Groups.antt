@@ -1,5 +1,6 @@
 -- The ways through bounds, groups of arrays, and names in brackets.
-use Rattle.std.proofs.Common.{◌≡◌, ℕ, true, false, Some, None, refl, arith}
+use Rattle.std.proofs.Common.{◌≡◌, ℕ, Some, None, Option, refl, arith}
+use Rattle.std.specs.Prelude.{unwrap_or}
 use Rattle.words.specs.declared.token.Mark.TheVariants.{Colon, OpenRound, CloseRound, OpenSquare, CloseSquare}
 use Rattle.words.specs.declared.token.Sign.{Sign}
 use Rattle.words.specs.declared.token.Sign.TheVariants.{Plus}
@@ -12,27 +13,22 @@ use Rattle.parser.specs.declared.node.Node.TheVariants.{Group as GroupNode}
 use Rattle.parser.specs.declared.table.Parser.{Parser}
 use Rattle.parser.specs.Records.{ahead, NameAt, RowAt, GroupAt, bound_in}
 use Rattle.parser.specs.Promises.{Took, Made, Moves, here, deeper, Goes, Read, Passed}
-use Rattle.parser.specs.Expecting.{Expected, Opened}
+use Rattle.parser.specs.Expecting.{Expected, Takes, Opened}
 use Rattle.parser.proofs.Tables.{word_left}
 use Rattle.parser.proofs.Moving.{moves_trans, moves_took}
 use Rattle.parser.proofs.Going.{goes_start, goes_alike, goes_left}
-use Rattle.parser.proofs.Holding.{name_stays, moves_keep}
+use Rattle.parser.proofs.Holding.{name_stays, moves_keep, row_stays}
 use Rattle.parser.proofs.Naming.{next_place}
-use Rattle.parser.proofs.Rows.{row_stays}
 use Rattle.parser.proofs.Standing.{stands, made_read}
 use Rattle.parser.proofs.Stepping.{goes_first, goes_else, goes_on, goes_on_deeper, goes_closing, goes_opening, goes_behind, goes_behind_deeper}
 
 bound_begins : {L : ℕ} {r : Parser} → Goes L r r (here (goto (begin (a bound)))) (here bound_script)
 bound_begins = goes_alike goes_start (λ d k t n. refl) (λ d k. refl)
 
--- A sign comes, or none.
-pub sign_taken : {L : ℕ} {r s : Parser} {x : Sign} → heads a_sign (ahead r) ≡ Some x → Took true r s
-    → Goes L r s (here (goto (begin (a bound)))) (here (word a_number λ n _. done (record { sign = x; size = n })))
-sign_taken e t = goes_on (record { is = e; took = t }) refl refl (λ d. refl) (goes_first e bound_begins)
-
-pub sign_left : {L : ℕ} {r s : Parser} → heads a_sign (ahead r) ≡ None → Took false r s
-    → Goes L r s (here (goto (begin (a bound)))) (here (word a_number λ n _. done (record { sign = Plus; size = n })))
-sign_left {s = s} e t = goes_left s (goes_else e refl bound_begins) t
+-- A sign comes, or none, which stands for `+`.
+pub sign_read : {L : ℕ} {r : Parser} (s : Parser) (o : Option Sign) → Takes a_sign (λ x. x) r s o → Goes L r s (here (goto (begin (a bound)))) (here (word a_number λ n _. done (record { sign = unwrap_or o Plus; size = n })))
+sign_read s (Some x) h = goes_on h refl refl (λ d. refl) (goes_first h.is bound_begins)
+sign_read s None h = goes_left s (goes_else h.is refl bound_begins) h.took
 
 -- A group begins with its names.
 pub group_begins : {L : ℕ} {r : Parser} → Goes L r r (here (goto (begin (a group)))) (here (part (begin (row identifier)) group_bounds))

@@ -18,12 +18,10 @@ use Rattle.parser.specs.Expecting.{Expected, NameExpected, RefusedAt, Opened, Is
 use Rattle.parser.proofs.Tables.{word_left}
 use Rattle.parser.proofs.Moving.{moves_none, moves_trans, moves_took}
 use Rattle.parser.proofs.Going.{goes_start, goes_alike, goes_deeper, goes_out, fails_here}
-use Rattle.parser.proofs.Factors.{deep_refused}
-use Rattle.parser.proofs.Holding.{exp_stays, moves_keep}
-use Rattle.parser.proofs.Rows.{row_stays}
+use Rattle.parser.proofs.Holding.{exp_stays, moves_keep, row_stays}
 use Rattle.parser.proofs.Naming.{next_place, next_named, name_taken}
 use Rattle.parser.proofs.Standing.{element_stays, statement_stays, block_at, stands, made_read}
-use Rattle.parser.proofs.Stepping.{goes_else, goes_on_deeper, goes_closing, goes_behind_deeper, fails_missing}
+use Rattle.parser.proofs.Stepping.{part_opened, goes_else, goes_on_deeper, goes_closing, goes_behind_deeper, fails_missing}
 
 -- No statement begins with the next word.
 pub statement_missing : (L : ℕ) (r : Parser) (e : Refusal) → heads (the_keyword If) (ahead r) ≡ None → heads (the_keyword For) (ahead r) ≡ None → heads (the_keyword Begin) (ahead r) ≡ None
@@ -34,23 +32,10 @@ statement_missing L r e e₁ e₂ e₃ e₄ e₅ e₆ e₇ e₈ h =
     fails_missing e (record { is = e₇; refused = h })
     (goes_else e₈ refl (goes_else e₆ refl (goes_else e₅ refl (goes_else e₄ refl (goes_else e₃ refl (goes_else e₂ refl (goes_else e₁ refl g)))))))
 
--- A statement's first word opens a level, or none is left.
-module _ (w : Keyword) (f : ℕ → Script (a statement)) {L : ℕ} {r : Parser} (e : heads (the_keyword w) (ahead r) ≡ Some tt)
-    (takes : (d b : ℕ) (k : Around (a statement)) → moved (at d (goto (begin (a statement))) k) (token_of (the_keyword w) tt) b ≡ Some (at (suc d) (f b) k)) where
-  pub statement_opened : {s : Parser} {l : ℕ} → Opened L r s l → Goes L r s (here (goto (begin (a statement)))) (deeper (f (next_place r)))
-  statement_opened {s} o = goes_deeper (the_keyword w) tt s (λ b. f b) goes_start e o.took (omega (arith, o.level)) takes
-
-  pub statement_deep : (q : Parser) (u : Refusal) → opens (token_of (the_keyword w) tt) ≡ true → Moves r q → IsTooDeep L r u → record { moves : Moves r q; reads : Fails L r (here (goto (begin (a statement)))) u }
-  statement_deep q u up m h = record {
-    moves = m;
-    reads = fails_here {r = r} {a = here (goto (begin (a statement)))} {b = here (goto (begin (a statement)))} u goes_start (λ limit d k i. rw (h.refused.reason, h.refused.place)
-        (deep_refused limit (length r.text.now) (the_keyword w) tt (ahead r) (at d (goto (begin (a statement))) k) e up (λ b. (at (suc d) (f b) k, takes d b k, omega (arith, h.none)))));
-  }
-
 -- if: the condition is read, then `;`, then the statement.
 module _ {L : ℕ} {r s₁ : Parser} {l : ℕ} (e : heads (the_keyword If) (ahead r) ≡ Some tt) (o : Opened L r s₁ l) where
   pub if_begun : Goes L r s₁ (here (goto (begin (a statement)))) (deeper (conditional_script (next_place r)))
-  if_begun = statement_opened If conditional_script e (λ d b k. refl) o
+  if_begun = part_opened (the_keyword If) tt conditional_script e (λ d b k. refl) o
 
   module _ {s₂ : Parser} {i : ℕ} (x : Read ExpAt l s₁ s₂ (here (goto (begin (a exp)))) i) where
     pub condition_read : Goes L r s₂ (here (goto (begin (a statement)))) (deeper (word (the_mark Semicolon) λ _ _. part (begin (a statement)) λ t. done (conditional (next_place r) x.tree t)))
@@ -74,7 +59,7 @@ module _ {L : ℕ} {r s₁ : Parser} {l : ℕ} (e : heads (the_keyword If) (ahea
 -- for: a name, `:=`, the elements, `;` and the statement.
 module _ {L : ℕ} {r s₁ : Parser} {l : ℕ} (e : heads (the_keyword For) (ahead r) ≡ Some tt) (o : Opened L r s₁ l) where
   pub for_begun : Goes L r s₁ (here (goto (begin (a statement)))) (deeper (repetition_script (next_place r)))
-  for_begun = statement_opened For repetition_script e (λ d b k. refl) o
+  for_begun = part_opened (the_keyword For) tt repetition_script e (λ d b k. refl) o
 
   module _ {s₂ : Parser} {w : ℕ} (h₂ : NameExpected s₁ s₂ w) where
     pub for_named : Goes L r s₂ (here (goto (begin (a statement))))
@@ -113,7 +98,7 @@ module _ {L : ℕ} {r s₁ : Parser} {l : ℕ} (e : heads (the_keyword For) (ahe
 -- begin: the statements are read, then `end`.
 module _ {L : ℕ} {r s₁ : Parser} {l : ℕ} (e : heads (the_keyword Begin) (ahead r) ≡ Some tt) (o : Opened L r s₁ l) where
   pub block_begun : Goes L r s₁ (here (goto (begin (a statement)))) (deeper block_script)
-  block_begun = statement_opened Begin (λ _. block_script) e (λ d b k. refl) o
+  block_begun = part_opened (the_keyword Begin) tt (λ _. block_script) e (λ d b k. refl) o
 
   module _ {s₂ : Parser} {i : ℕ} (x : Read (RowAt StatementAt) l s₁ s₂ (here (goto (begin (row statement)))) i) where
     pub block_inside : Goes L r s₂ (here (goto (begin (a statement)))) (deeper (word (the_keyword End) λ _ _. done (block x.tree)))

@@ -1,16 +1,15 @@
 -- Trees of elements, groups, statements and items that stand in the table stay there.
 use Rattle.std.proofs.Common.{◌≡◌, ℕ, ◌+◌, ◌<◌, ◌∙◌, arith}
 use Rattle.grammar.specs.Tree.{Row, one, more, Variable, whole, indexed, Element, single, progression, Statement, labelled, conditional, repeated, assigned, go, switched, input, printed, stop, sequence, block, Group, Item, comment, integer, boolean, array, switch, action}
-use Rattle.grammar.specs.Grammar.{Phrase, Value, identifier, element, exp, group}
+use Rattle.grammar.specs.Grammar.{Part, ranked, factor, variable, identifier, bound, group, element, statement, item, exp, Phrase, Tree, Value}
 use Rattle.grammar.specs.Parser.{done}
 use Rattle.parser.specs.declared.node.Node.{Node}
 use Rattle.parser.specs.declared.node.Node.TheVariants.{Subscripted, Progression, More, Labelled, Conditional, Repeated, Assigned, Switched, Input, Printed, Integer, Boolean, Array, Group as GroupNode, Switch}
 use Rattle.parser.specs.declared.table.Parser.{Parser}
-use Rattle.parser.specs.Records.{View, view, node, ExpAt, VariableAt, ElementAt, NameAt, RowAt, StatementAt, GroupAt, Item_at}
+use Rattle.parser.specs.Records.{View, view, node, ExpAt, VariableAt, ElementAt, NameAt, RowAt, StatementAt, GroupAt, Item_at, TreeAt}
 use Rattle.parser.specs.Promises.{Made, Moves, Spot, here, Goes, Read}
 use Rattle.parser.proofs.Going.{goes_made}
-use Rattle.parser.proofs.Holding.{Keeps, moves_keep, made_keeps, keeps_trans, made_node, named_stays, one_stays, two_stays, exp_stays, name_stays}
-use Rattle.parser.proofs.Rows.{Stays, row_stays}
+use Rattle.parser.proofs.Holding.{Keeps, moves_keep, made_keeps, keeps_trans, made_node, named_stays, one_stays, two_stays, exp_stays, name_stays, Stays, row_stays}
 
 module _ (s q : Parser) (m : Keeps s q) where
   pub variable_stays : (x : Variable) (i : ℕ) → i < s.made → VariableAt (view s) x i → VariableAt (view q) x i
@@ -67,6 +66,21 @@ module _ (s q : Parser) (m : Keeps s q) where
   item_stays (switch x xs) i lt h =
       (h.0, one_stays s q m i (Switch h.0) (λ p. RowAt NameAt (view s) xs p) (λ p. RowAt NameAt (view q) xs p) lt (λ p k. row_stays identifier NameAt name_stays s q m xs p k) h.1, named_stays s q m h.0 x h.2)
   item_stays (action t) i lt h = statement_stays t i lt h
+
+-- The tree of any part stays, and so do rows of it.
+pub tree_stays : (p : Part) → Stays (TreeAt p)
+tree_stays (ranked r) = exp_stays
+tree_stays factor = exp_stays
+tree_stays variable = variable_stays
+tree_stays identifier = name_stays
+tree_stays bound = λ s q m b i lt h. h
+tree_stays group = group_stays
+tree_stays element = element_stays
+tree_stays statement = statement_stays
+tree_stays item = item_stays
+
+pub rows_stay : (p : Part) → Stays {A = Row (Tree p)} (RowAt (TreeAt p))
+rows_stay p = row_stays p (TreeAt p) (tree_stays p)
 
 -- The statements of a block, in a row, stand where the block does.
 pub block_at : (v : View) (ts : Row Statement) (i : ℕ) → RowAt StatementAt v ts i → StatementAt v (block ts) i

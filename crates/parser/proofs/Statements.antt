@@ -17,8 +17,7 @@ use Rattle.parser.specs.Pieces.{subscript_script, assigning}
 use Rattle.parser.proofs.Tables.{word_left}
 use Rattle.parser.proofs.Moving.{moves_none, moves_trans, moves_took}
 use Rattle.parser.proofs.Going.{goes_start, goes_trans, goes_word, goes_done, goes_made}
-use Rattle.parser.proofs.Holding.{exp_stays, made_node, moves_keep}
-use Rattle.parser.proofs.Rows.{row_stays}
+use Rattle.parser.proofs.Holding.{exp_stays, made_node, moves_keep, row_stays}
 use Rattle.parser.proofs.Naming.{next_place, next_named, NameTaken, name_taken}
 use Rattle.parser.proofs.Standing.{variable_stays, stands, made_read}
 use Rattle.parser.proofs.Stepping.{goes_first, goes_else, goes_not, goes_on, goes_closing, goes_opening, goes_behind, goes_behind_deeper}

@@ -8,6 +8,7 @@ ghost use Rattle.parser.specs.Records.{all, ahead, RowAt, StatementAt};
 ghost use Rattle.parser.specs.Promises.{Moves, Reads, here, in_text, next};
 ghost use Rattle.parser.specs.Labels.{is_label, LabelsPassed, LabelsMade};
 
+use crate::element::ElementPart;
 use crate::node::Node;
 use crate::refusal::Refusal;
 use crate::table::Parser;
@@ -15,7 +16,8 @@ use grammar::refusal::SentenceRefusal;
 use words::token::{Keyword, Mark};
 
 impl Parser<'_> {
-    // Passes over the labels that come next, and says how many there are.
+    // Passes over the labels that come next, and says how many there are. It counts by hand, since each step moves the
+    // parser and there is no iterator to count.
     fn skip_labels(&mut self) -> usize
         ensures passed { LabelsPassed self.old self.new result }
         ensures plain { is_label (ahead self.new) ≡ false }
@@ -37,10 +39,8 @@ impl Parser<'_> {
         ensures { LabelsMade first labels statement self.old self.new result }
     {
         let mut all = statement;
-        let mut left = labels;
-        while left > 0 {
-            left -= 1;
-            all = self.make(Node::Labelled(first + 2 * left, all));
+        for label in (0..labels).rev() {
+            all = self.make(Node::Labelled(first + 2 * label, all));
         }
         all
     }
@@ -64,25 +64,25 @@ impl Parser<'_> {
         ensures moves { Moves self.old self.new }
         ensures reads { Reads StatementAt levels self.old self.new (here (goto (begin (a statement)))) result }
     {
-        if self.next_is_keyword(Keyword::If) {
+        if self.next_is(Keyword::If) {
             return self.conditional(levels);
         }
-        if self.next_is_keyword(Keyword::For) {
+        if self.next_is(Keyword::For) {
             return self.repetition(levels);
         }
-        if self.next_is_keyword(Keyword::Begin) {
+        if self.next_is(Keyword::Begin) {
             return self.block(levels);
         }
-        if self.next_is_keyword(Keyword::Go) {
+        if self.next_is(Keyword::Go) {
             return self.jump(levels);
         }
-        if self.next_is_keyword(Keyword::In) {
+        if self.next_is(Keyword::In) {
             return self.input(levels);
         }
-        if self.next_is_keyword(Keyword::Print) {
+        if self.next_is(Keyword::Print) {
             return self.print(levels);
         }
-        if self.next_is_keyword(Keyword::Stop) {
+        if self.next_is(Keyword::Stop) {
             return Ok(self.stop());
         }
         match self.next_name() {
@@ -101,7 +101,7 @@ impl Parser<'_> {
         let place = self.place();
         let inner = self.open(levels)?;
         let condition = self.expression(1, inner)?;
-        self.expect_mark(Mark::Semicolon)?;
+        self.expect(Mark::Semicolon)?;
         let body = self.statement(inner)?;
         Ok(self.make(Node::Conditional(place, condition, body)))
     }
@@ -116,9 +116,9 @@ impl Parser<'_> {
         let place = self.place();
         let inner = self.open(levels)?;
         let name = self.expect_name()?;
-        self.expect_mark(Mark::Becomes)?;
-        let elements = self.elements(inner)?;
-        self.expect_mark(Mark::Semicolon)?;
+        self.expect(Mark::Becomes)?;
+        let elements = self.row::<ElementPart>(inner)?;
+        self.expect(Mark::Semicolon)?;
         let body = self.statement(inner)?;
         Ok(self.make(Node::Repeated(place, name, elements, body)))
     }
@@ -132,7 +132,7 @@ impl Parser<'_> {
     {
         let inner = self.open(levels)?;
         let all = self.statements(inner)?;
-        self.expect_keyword(Keyword::End)?;
+        self.expect(Keyword::End)?;
         Ok(all)
     }
 
@@ -143,7 +143,7 @@ impl Parser<'_> {
         ensures reads { Reads (RowAt StatementAt) levels self.old self.new (here (goto (begin (row statement)))) result }
     {
         let mut all = self.statement(levels)?;
-        while self.take_mark(Mark::Semicolon) {
+        while let Some(()) = self.take(Mark::Semicolon) {
             let next = self.statement(levels)?;
             all = self.make(Node::More(all, next));
         }

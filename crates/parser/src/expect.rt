@@ -1,38 +1,25 @@
 // Words that have to come: taken, or refused.
 
 ghost use Rattle.std.specs.Prelude.{◌≡◌, ◌<◌};
-ghost use Rattle.grammar.specs.Classes.{the_mark, the_keyword};
 ghost use Rattle.parser.specs.Promises.{Moves};
-ghost use Rattle.parser.specs.Expecting.{Expects, ExpectsName, ExpectsNumber, Opens, OpensMark};
+ghost use Rattle.parser.specs.Expecting.{Expects, ExpectsName, Opens, OpensMark};
 
+use crate::class::WordClass;
 use crate::refusal::Refusal;
 use crate::table::Parser;
 use grammar::refusal::SentenceRefusal;
-use words::token::{Keyword, Mark};
+use words::token::Mark;
 
 impl Parser<'_> {
-    // Takes the mark, which has to come.
-    pub(crate) fn expect_mark(&mut self, m: Mark) -> Result<(), Refusal>
+    // Takes the next word, which has to be of the class, and says what it has of it.
+    pub(crate) fn expect<C: WordClass>(&mut self, class: C) -> Result<C::Found, Refusal>
         ensures moves { Moves self.old self.new }
-        ensures took { Expects (the_mark m) tt self.old self.new result }
+        ensures took { Expects (C.class class) (C.content class) self.old self.new result }
     {
-        if !self.next_is_mark(m) {
-            return Err(self.refuse(SentenceRefusal::Unexpected));
+        match self.take(class) {
+            Some(found) => Ok(found),
+            None => Err(self.refuse(SentenceRefusal::Unexpected)),
         }
-        self.skip();
-        Ok(())
-    }
-
-    // Takes the reserved word, which has to come.
-    pub(crate) fn expect_keyword(&mut self, k: Keyword) -> Result<(), Refusal>
-        ensures moves { Moves self.old self.new }
-        ensures took { Expects (the_keyword k) tt self.old self.new result }
-    {
-        if !self.next_is_keyword(k) {
-            return Err(self.refuse(SentenceRefusal::Unexpected));
-        }
-        self.skip();
-        Ok(())
     }
 
     // Takes a name, which has to come, and says which word it is.
@@ -44,20 +31,6 @@ impl Parser<'_> {
             Some(w) => {
                 self.skip();
                 Ok(w)
-            }
-            None => Err(self.refuse(SentenceRefusal::Unexpected)),
-        }
-    }
-
-    // Takes a number, which has to come.
-    pub(crate) fn expect_number(&mut self) -> Result<u32, Refusal>
-        ensures moves { Moves self.old self.new }
-        ensures took { ExpectsNumber self.old self.new result }
-    {
-        match self.next_number() {
-            Some(n) => {
-                self.skip();
-                Ok(n)
             }
             None => Err(self.refuse(SentenceRefusal::Unexpected)),
         }
@@ -81,7 +54,7 @@ impl Parser<'_> {
         ensures moves { Moves self.old self.new }
         ensures opens { OpensMark m levels self.old self.new result }
     {
-        if !self.next_is_mark(m) {
+        if !self.next_is(m) {
             return Err(self.refuse(SentenceRefusal::Unexpected));
         }
         self.open(levels)

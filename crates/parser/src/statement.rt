@@ -10,6 +10,7 @@ ghost use Rattle.parser.specs.Promises.{Moves, Read, Reads, Passes, here, instea
 ghost use Rattle.parser.specs.Pieces.{subscript_script, assigning};
 ghost use Rattle.parser.specs.Labels.{is_label};
 
+use crate::element::ExpressionPart;
 use crate::node::Node;
 use crate::refusal::Refusal;
 use crate::table::Parser;
@@ -23,7 +24,7 @@ impl Parser<'_> {
     {
         let inner = self.open_mark(Mark::OpenSquare, levels)?;
         let subscript = self.expression(1, inner)?;
-        self.expect_mark(Mark::CloseSquare)?;
+        self.expect(Mark::CloseSquare)?;
         Ok(subscript)
     }
 
@@ -35,7 +36,7 @@ impl Parser<'_> {
         ensures reads { Passes VariableAt levels self.old self.new (here (goto (begin (a statement)))) (λ v. here (assigning v)) result }
     {
         self.skip();
-        if !self.next_is_mark(Mark::OpenSquare) {
+        if !self.next_is(Mark::OpenSquare) {
             return Ok(self.make(Node::Simple(name)));
         }
         let subscript = self.subscript(levels)?;
@@ -50,7 +51,7 @@ impl Parser<'_> {
         ensures reads { Reads StatementAt levels self.old self.new (here (goto (begin (a statement)))) result }
     {
         let target = self.target(name, levels)?;
-        self.expect_mark(Mark::Becomes)?;
+        self.expect(Mark::Becomes)?;
         let value = self.expression(1, levels)?;
         Ok(self.make(Node::Assigned(target, value)))
     }
@@ -63,9 +64,9 @@ impl Parser<'_> {
     {
         let place = self.place();
         self.skip();
-        self.expect_keyword(Keyword::To)?;
+        self.expect(Keyword::To)?;
         let name = self.expect_name()?;
-        if !self.next_is_mark(Mark::OpenSquare) {
+        if !self.next_is(Mark::OpenSquare) {
             return Ok(self.make(Node::Go(place, name)));
         }
         let subscript = self.subscript(levels)?;
@@ -80,10 +81,10 @@ impl Parser<'_> {
     {
         let place = self.place();
         self.skip();
-        self.expect_mark(Mark::Into)?;
+        self.expect(Mark::Into)?;
         let inner = self.open_mark(Mark::OpenRound, levels)?;
         let target = self.variable(inner)?;
-        self.expect_mark(Mark::CloseRound)?;
+        self.expect(Mark::CloseRound)?;
         Ok(self.make(Node::Input(place, target)))
     }
 
@@ -96,8 +97,8 @@ impl Parser<'_> {
         let place = self.place();
         self.skip();
         let inner = self.open_mark(Mark::OpenRound, levels)?;
-        let all = self.expressions(inner)?;
-        self.expect_mark(Mark::CloseRound)?;
+        let all = self.row::<ExpressionPart>(inner)?;
+        self.expect(Mark::CloseRound)?;
         Ok(self.make(Node::Printed(place, all)))
     }
 

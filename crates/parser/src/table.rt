@@ -8,7 +8,7 @@ use words::table::WordSlot;
 use words::word::Word;
 
 // A record of the work table: a word of the text, the line of the symbol table that the word's name has, where it is a
-// name, and a node of the tree.
+// name, and a node of the tree. Words and nodes share the lent records, since the library has no heap.
 #[derive(Clone, Copy)]
 pub struct Record {
     pub word: Word,

@@ -19,18 +19,18 @@ pub returns-in_err-groups : goal.returns-in_err-groups
 returns-in_err-groups c =
     let p = err_from_is_err_and c.from_residual-in_err-groups.result c.from_residual-in_err-groups.ensures.1 in
     let o = c.in_ok-inner.ensures.opens in
-    rw (p.1, p.2) (stops_behind_deeper c.groups.new.self _ c.groups.ensures.moves o.1.level tt
+    rw (p.1, p.2) (stops_behind_deeper c.row.new.self _ c.row.ensures.moves o.1.level tt
     (arrays_opened c.requires.begins c.skip.ensures.took o.0 o.1) c.in_err-groups.ensures.reads)
 
-pub returns-in_err-expect_mark : goal.returns-in_err-expect_mark
-returns-in_err-expect_mark c =
-    let p = err_from_is_err_and c.from_residual-in_err-expect_mark.result c.from_residual-in_err-expect_mark.ensures.1 in
+pub returns-in_err-expect : goal.returns-in_err-expect
+returns-in_err-expect c =
+    let p = err_from_is_err_and c.from_residual-in_err-expect.result c.from_residual-in_err-expect.ensures.1 in
     let o = c.in_ok-inner.ensures.opens in
-    rw (p.1, p.2) (stops_missing_deeper c.expect_mark.new.self _ c.expect_mark.ensures.moves
-    (arrays_inner c.requires.begins c.skip.ensures.took o.0 o.1 c.in_ok-groups.ensures.reads) c.in_err-expect_mark.ensures.took)
+    rw (p.1, p.2) (stops_missing_deeper c.expect.new.self _ c.expect.ensures.moves
+    (arrays_inner c.requires.begins c.skip.ensures.took o.0 o.1 c.in_ok-groups.ensures.reads) c.in_err-expect.ensures.took)
 
 pub returns : goal.returns
 returns c =
     let o = c.in_ok-inner.ensures.opens in
     arrays_read c.requires.begins c.skip.ensures.took o.0 o.1 c.in_ok-groups.ensures.reads
-    c.expect_mark.new.self c.make.new.self c.make.result c.in_ok-expect_mark.ensures.took c.make.ensures
+    c.expect.new.self c.make.new.self c.make.result c.in_ok-expect.ensures.took c.make.ensures

@@ -19,18 +19,18 @@ pub returns-in_err-all : goal.returns-in_err-all
 returns-in_err-all c =
     let p = err_from_is_err_and c.from_residual-in_err-all.result c.from_residual-in_err-all.ensures.1 in
     let o = c.in_ok-inner.ensures.opens in
-    rw (p.1, p.2) (stops_behind_deeper c.expressions.new.self _ c.expressions.ensures.moves o.1.level tt
+    rw (p.1, p.2) (stops_behind_deeper c.row.new.self _ c.row.ensures.moves o.1.level tt
     (print_opened c.requires.begins c.skip.ensures.took o.0 o.1) c.in_err-all.ensures.reads)
 
-pub returns-in_err-expect_mark : goal.returns-in_err-expect_mark
-returns-in_err-expect_mark c =
-    let p = err_from_is_err_and c.from_residual-in_err-expect_mark.result c.from_residual-in_err-expect_mark.ensures.1 in
+pub returns-in_err-expect : goal.returns-in_err-expect
+returns-in_err-expect c =
+    let p = err_from_is_err_and c.from_residual-in_err-expect.result c.from_residual-in_err-expect.ensures.1 in
     let o = c.in_ok-inner.ensures.opens in
-    rw (p.1, p.2) (stops_missing_deeper c.expect_mark.new.self _ c.expect_mark.ensures.moves
-    (print_inner c.requires.begins c.skip.ensures.took o.0 o.1 c.in_ok-all.ensures.reads) c.in_err-expect_mark.ensures.took)
+    rw (p.1, p.2) (stops_missing_deeper c.expect.new.self _ c.expect.ensures.moves
+    (print_inner c.requires.begins c.skip.ensures.took o.0 o.1 c.in_ok-all.ensures.reads) c.in_err-expect.ensures.took)
 
 pub returns : goal.returns
 returns c =
     let o = c.in_ok-inner.ensures.opens in
     printed_read c.requires.begins c.skip.ensures.took o.0 o.1 c.in_ok-all.ensures.reads
-    c.expect_mark.new.self c.make.new.self c.place-place.result c.make.result c.in_ok-expect_mark.ensures.took c.place-place.ensures c.make.ensures
+    c.expect.new.self c.make.new.self c.place-place.result c.make.result c.in_ok-expect.ensures.took c.place-place.ensures c.make.ensures
