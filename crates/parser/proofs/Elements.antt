@@ -8,7 +8,7 @@ use Rattle.grammar.specs.Parser.{begin, done, word, part, goto, element_rest, pr
 use Rattle.parser.specs.declared.node.Node.TheVariants.{Progression}
 use Rattle.parser.specs.declared.table.Parser.{Parser}
 use Rattle.parser.specs.Records.{ahead, ExpAt, ElementAt}
-use Rattle.parser.specs.Promises.{Ready, Made, Moves, here, deeper, Goes, Read}
+use Rattle.parser.specs.Promises.{Made, Moves, here, deeper, Goes, Read}
 use Rattle.parser.specs.Expecting.{Expected, Opened}
 use Rattle.parser.proofs.Tables.{word_left}
 use Rattle.parser.proofs.Moving.{moves_none, moves_trans, moves_took}
@@ -18,12 +18,12 @@ use Rattle.parser.proofs.Standing.{stands}
 use Rattle.parser.proofs.Stepping.{goes_first, goes_closing, goes_opening, goes_behind, goes_behind_deeper}
 
 -- An element begins with an expression.
-pub element_begins : {L : ℕ} {r : Parser} → Ready r → Goes L r r (here (goto (begin (a element)))) (here (part (begin (a exp)) element_rest))
-element_begins h = goes_alike (goes_start h) (λ d k t n. refl) (λ d k. refl)
+pub element_begins : {L : ℕ} {r : Parser} → Goes L r r (here (goto (begin (a element)))) (here (part (begin (a exp)) element_rest))
+element_begins = goes_alike goes_start (λ d k t n. refl) (λ d k. refl)
 
-module _ {L : ℕ} {r s₁ : Parser} {i : ℕ} (ready : Ready r) (x : Read ExpAt L r s₁ (here (goto (begin (a exp)))) i) where
+module _ {L : ℕ} {r s₁ : Parser} {i : ℕ} (x : Read ExpAt L r s₁ (here (goto (begin (a exp)))) i) where
   pub from_read : Goes L r s₁ (here (goto (begin (a element)))) (here (element_rest x.tree))
-  from_read = goes_behind tt x.goes (element_begins ready)
+  from_read = goes_behind tt x.goes element_begins
 
   -- No `(` comes.
   pub single_read : heads (the_mark OpenRound) (ahead s₁) ≡ None → record { moves : Moves r s₁; reads : Read ElementAt L r s₁ (here (goto (begin (a element)))) i }
@@ -48,20 +48,20 @@ module _ {L : ℕ} {r s₁ : Parser} {i : ℕ} (ready : Ready r) (x : Read ExpAt
         progression_read s₅ q k m z made =
             let g₅ = goes_behind tt z.goes limit_begun in
             let strict : s₅.made + r.at < r.made + s₅.at = omega (arith, x.goes.moves.thrift, o.took.at, o.took.made, y.goes.moves.thrift, h.took.at, h.took.made, z.goes.moves.thrift) in
-            let paid : s₅.made < s₅.at = omega (arith, ready.thrift) in
-            let m₃ : Moves s₃ s₅ = moves_trans s₃ s₄ s₅ (moves_took s₃ s₄ y.goes.moves.ready (word_left (the_mark CloseRound) tt s₃ h.is) h.took) z.goes.moves in
-            let m₁ : Moves s₁ s₅ = moves_trans s₁ s₂ s₅ (moves_took s₁ s₂ x.goes.moves.ready (word_left (the_mark OpenRound) tt s₁ e) o.took) (moves_trans s₂ s₃ s₅ y.goes.moves m₃) in
+            let paid : s₅.made < s₅.at = omega (arith, r.thrift) in
+            let m₃ : Moves s₃ s₅ = moves_trans s₃ s₄ s₅ (moves_took s₃ s₄ (word_left (the_mark CloseRound) tt s₃ h.is) h.took) z.goes.moves in
+            let m₁ : Moves s₁ s₅ = moves_trans s₁ s₂ s₅ (moves_took s₁ s₂ (word_left (the_mark OpenRound) tt s₁ e) o.took) (moves_trans s₂ s₃ s₅ y.goes.moves m₃) in
             let n = Progression i j k in
             let u = stands ExpAt exp_stays n m s₁ s₅ q m₁ made x.tree i x.below x.held in
             let v = stands ExpAt exp_stays n m s₃ s₅ q m₃ made y.tree j y.below y.held in
-            let w = stands ExpAt exp_stays n m s₅ s₅ q (moves_none s₅ z.goes.moves.ready) made z.tree k z.below z.held in
+            let w = stands ExpAt exp_stays n m s₅ s₅ q (moves_none s₅) made z.tree k z.below z.held in
             let g = goes_made n m q g₅ paid strict made in
             record {
               moves = g.moves;
               reads = record {
                 tree = progression x.tree y.tree z.tree;
                 below = omega (arith, made.place, made.made);
-                held = (i, (j, k, made_node n m s₅ q z.goes.moves.ready paid made, v.below, w.below, v.held, w.held), u.below, u.held);
+                held = (i, (j, k, made_node n m s₅ q paid made, v.below, w.below, v.held, w.held), u.below, u.held);
                 goes = g;
               };
             }

@@ -10,7 +10,7 @@ use Rattle.parser.specs.declared.node.Node.{Node}
 use Rattle.parser.specs.declared.refusal.Refusal.{Refusal}
 use Rattle.parser.specs.declared.table.Parser.{Parser}
 use Rattle.parser.specs.Records.{ahead, View}
-use Rattle.parser.specs.Promises.{Ready, place_of, Took, Made, Spot, here, deeper, state, Goes, Fails, Read, Reads}
+use Rattle.parser.specs.Promises.{place_of, Took, Made, Spot, here, deeper, state, Goes, Fails, Read, Reads}
 use Rattle.parser.proofs.Tables.{word_left}
 use Rattle.parser.proofs.Moving.{moves_none, moves_trans, moves_took, moves_left, moves_made, took_ahead, left_ahead, made_ahead}
 
@@ -26,8 +26,8 @@ next_word c x [] e = none_some e
 next_word c x (w ∷ ws) e = record { word = w; rest = ws; whole = refl; is = (found_to_is c w.token x e).0 }
 
 module _ {p : Phrase} {L : ℕ} {r : Parser} {a : Spot p} where
-  pub goes_start : Ready r → Goes L r r a a
-  goes_start h = record { moves = moves_none r h; leads = λ limit d k e. refl }
+  pub goes_start : Goes L r r a a
+  goes_start = record { moves = moves_none r; leads = λ limit d k e. refl }
 
   pub goes_trans : {s q : Parser} {b c : Spot p} → Goes L r s a b → Goes L s q b c → Goes L r q a c
   goes_trans {s} {q} {b} {c} g h = record {
@@ -47,7 +47,7 @@ module _ {p : Phrase} {L : ℕ} {r : Parser} {a : Spot p} where
       let w = next_word c x (ahead s) e in
       let i : place_of (length s.text.now) (ahead s) ≡ w.word.place = ap (place_of (length s.text.now)) w.whole in
       record {
-        moves = moves_trans r s q g.moves (moves_took s q g.moves.ready (word_left c x s e) t);
+        moves = moves_trans r s q g.moves (moves_took s q (word_left c x s e) t);
         leads = λ limit d k h.
             g.leads limit d k h
             ∙ (ap (λ ws. run limit (length r.text.now) ws (state b d k)) w.whole
@@ -63,7 +63,7 @@ module _ {p : Phrase} {L : ℕ} {r : Parser} {a : Spot p} where
       let w = next_word c x (ahead s) e in
       let i : place_of (length s.text.now) (ahead s) ≡ w.word.place = ap (place_of (length s.text.now)) w.whole in
       record {
-        moves = moves_trans r s q g.moves (moves_took s q g.moves.ready (word_left c x s e) t);
+        moves = moves_trans r s q g.moves (moves_took s q (word_left c x s e) t);
         leads = λ limit d k h.
             g.leads limit d k h
             ∙ (ap (λ ws. run limit (length r.text.now) ws (state b d k)) w.whole
@@ -75,7 +75,7 @@ module _ {p : Phrase} {L : ℕ} {r : Parser} {a : Spot p} where
   -- A word is left.
   pub goes_left : {s : Parser} {b : Spot p} (q : Parser) → Goes L r s a b → Took false s q → Goes L r q a b
   goes_left {s} {b} q g t = record {
-    moves = moves_trans r s q g.moves (moves_left s q g.moves.ready t);
+    moves = moves_trans r s q g.moves (moves_left s q t);
     leads = λ limit d k h. g.leads limit d k h ∙ ap (λ ws. run limit (length r.text.now) ws (state b d k)) (sym (left_ahead s q t));
   }
 

@@ -1,5 +1,6 @@
 -- The ways through bounds, groups of arrays, and names in brackets.
-use Rattle.std.proofs.Common.{◌≡◌, ℕ, true, false, Some, None, refl, arith}
+use Rattle.std.proofs.Common.{◌≡◌, ℕ, Some, None, Option, refl, arith}
+use Rattle.std.specs.Prelude.{unwrap_or}
 use Rattle.words.specs.declared.token.Mark.TheVariants.{Colon, OpenRound, CloseRound, OpenSquare, CloseSquare}
 use Rattle.words.specs.declared.token.Sign.{Sign}
 use Rattle.words.specs.declared.token.Sign.TheVariants.{Plus}
@@ -11,36 +12,31 @@ use Rattle.parser.specs.declared.node.Bound.{Bound as BoundRecord}
 use Rattle.parser.specs.declared.node.Node.TheVariants.{Group as GroupNode}
 use Rattle.parser.specs.declared.table.Parser.{Parser}
 use Rattle.parser.specs.Records.{ahead, NameAt, RowAt, GroupAt, bound_in}
-use Rattle.parser.specs.Promises.{Ready, Took, Made, Moves, here, deeper, Goes, Read, Passed}
-use Rattle.parser.specs.Expecting.{Expected, Opened}
+use Rattle.parser.specs.Promises.{Took, Made, Moves, here, deeper, Goes, Read, Passed}
+use Rattle.parser.specs.Expecting.{Expected, Takes, Opened}
 use Rattle.parser.proofs.Tables.{word_left}
 use Rattle.parser.proofs.Moving.{moves_trans, moves_took}
 use Rattle.parser.proofs.Going.{goes_start, goes_alike, goes_left}
-use Rattle.parser.proofs.Holding.{name_stays, moves_keep}
+use Rattle.parser.proofs.Holding.{name_stays, moves_keep, row_stays}
 use Rattle.parser.proofs.Naming.{next_place}
-use Rattle.parser.proofs.Rows.{row_stays}
 use Rattle.parser.proofs.Standing.{stands, made_read}
 use Rattle.parser.proofs.Stepping.{goes_first, goes_else, goes_on, goes_on_deeper, goes_closing, goes_opening, goes_behind, goes_behind_deeper}
 
-bound_begins : {L : ℕ} {r : Parser} → Ready r → Goes L r r (here (goto (begin (a bound)))) (here bound_script)
-bound_begins h = goes_alike (goes_start h) (λ d k t n. refl) (λ d k. refl)
+bound_begins : {L : ℕ} {r : Parser} → Goes L r r (here (goto (begin (a bound)))) (here bound_script)
+bound_begins = goes_alike goes_start (λ d k t n. refl) (λ d k. refl)
 
--- A sign comes, or none.
-pub sign_taken : {L : ℕ} {r s : Parser} {x : Sign} → Ready r → heads a_sign (ahead r) ≡ Some x → Took true r s
-    → Goes L r s (here (goto (begin (a bound)))) (here (word a_number λ n _. done (record { sign = x; size = n })))
-sign_taken h e t = goes_on (record { is = e; took = t }) refl refl (λ d. refl) (goes_first e (bound_begins h))
-
-pub sign_left : {L : ℕ} {r s : Parser} → Ready r → heads a_sign (ahead r) ≡ None → Took false r s
-    → Goes L r s (here (goto (begin (a bound)))) (here (word a_number λ n _. done (record { sign = Plus; size = n })))
-sign_left {s = s} h e t = goes_left s (goes_else e refl (bound_begins h)) t
+-- A sign comes, or none, which stands for `+`.
+pub sign_read : {L : ℕ} {r : Parser} (s : Parser) (o : Option Sign) → Takes a_sign (λ x. x) r s o → Goes L r s (here (goto (begin (a bound)))) (here (word a_number λ n _. done (record { sign = unwrap_or o Plus; size = n })))
+sign_read s (Some x) h = goes_on h refl refl (λ d. refl) (goes_first h.is bound_begins)
+sign_read s None h = goes_left s (goes_else h.is refl bound_begins) h.took
 
 -- A group begins with its names.
-pub group_begins : {L : ℕ} {r : Parser} → Ready r → Goes L r r (here (goto (begin (a group)))) (here (part (begin (row identifier)) group_bounds))
-group_begins h = goes_alike (goes_start h) (λ d k t n. refl) (λ d k. refl)
+pub group_begins : {L : ℕ} {r : Parser} → Goes L r r (here (goto (begin (a group)))) (here (part (begin (row identifier)) group_bounds))
+group_begins = goes_alike goes_start (λ d k t n. refl) (λ d k. refl)
 
-module _ {L : ℕ} {r s₁ : Parser} {i : ℕ} (ready : Ready r) (x : Read (RowAt NameAt) L r s₁ (here (goto (begin (row identifier)))) i) where
+module _ {L : ℕ} {r s₁ : Parser} {i : ℕ} (x : Read (RowAt NameAt) L r s₁ (here (goto (begin (row identifier)))) i) where
   pub group_named : Goes L r s₁ (here (goto (begin (a group)))) (here (group_bounds x.tree))
-  group_named = goes_behind tt x.goes (group_begins ready)
+  group_named = goes_behind tt x.goes group_begins
 
   -- `[` opens a level, and the low bound is read.
   module _ {s₂ : Parser} {l : ℕ} (e : heads (the_mark OpenSquare) (ahead s₁) ≡ Some tt) (o : Opened L s₁ s₂ l) where
@@ -65,19 +61,19 @@ module _ {L : ℕ} {r s₁ : Parser} {i : ℕ} (ready : Ready r) (x : Read (RowA
           group_read s₆ q b m h₆ j k' =
               let n = GroupNode i (next_place s₁) low high in
               let k : Made n m s₆ q = rw j at k' in
-              let m₁ : Moves s₁ s₂ = moves_took s₁ s₂ x.goes.moves.ready (word_left (the_mark OpenSquare) tt s₁ e) o.took in
-              let m₃ : Moves s₃ s₄ = moves_took s₃ s₄ low_read.moves.ready (word_left (the_mark Colon) tt s₃ h.is) h.took in
-              let m₅ : Moves s₅ s₆ = moves_took s₅ s₆ high_read.moves.ready (word_left (the_mark CloseSquare) tt s₅ h₆.is) h₆.took in
+              let m₁ : Moves s₁ s₂ = moves_took s₁ s₂ (word_left (the_mark OpenSquare) tt s₁ e) o.took in
+              let m₃ : Moves s₃ s₄ = moves_took s₃ s₄ (word_left (the_mark Colon) tt s₃ h.is) h.took in
+              let m₅ : Moves s₅ s₆ = moves_took s₅ s₆ (word_left (the_mark CloseSquare) tt s₅ h₆.is) h₆.took in
               let m₁₆ : Moves s₁ s₆ = moves_trans s₁ s₂ s₆ m₁ (moves_trans s₂ s₃ s₆ (y 0).moves (moves_trans s₃ s₄ s₆ m₃ (moves_trans s₄ s₅ s₆ (z 0).moves m₅))) in
               let u = stands (RowAt NameAt) (row_stays identifier NameAt name_stays) n m s₁ s₆ q m₁₆ k x.tree i x.below x.held in
-              made_read GroupAt n m q ready (goes_closing h₆ refl refl (λ d. refl) high_read)
+              made_read GroupAt n m q (goes_closing h₆ refl refl (λ d. refl) high_read)
               (omega (arith, x.goes.moves.thrift, o.took.at, o.took.made, (y 0).moves.thrift, h.took.at, h.took.made, (z 0).moves.thrift, h₆.took.at, h₆.took.made)) k
               (λ w. (low, high, (i, w, u.below, u.held), refl, refl))
 
 -- Names in brackets: `(` opens a level, and the names are read.
-module _ (f : Row Name → Item) {L : ℕ} {r s₁ : Parser} {l : ℕ} (ready : Ready r) (e : heads (the_mark OpenRound) (ahead r) ≡ Some tt) (o : Opened L r s₁ l) where
+module _ (f : Row Name → Item) {L : ℕ} {r s₁ : Parser} {l : ℕ} (e : heads (the_mark OpenRound) (ahead r) ≡ Some tt) (o : Opened L r s₁ l) where
   pub names_begun : Goes L r s₁ (here (names_script f)) (deeper (part (begin (row identifier)) λ xs. word (the_mark CloseRound) λ _ _. done (f xs)))
-  names_begun = goes_opening e refl refl o (goes_start ready)
+  names_begun = goes_opening e refl refl o goes_start
 
   module _ {s₂ : Parser} {i : ℕ} (x : Read (RowAt NameAt) l s₁ s₂ (here (goto (begin (row identifier)))) i) where
     pub names_inside : Goes L r s₂ (here (names_script f)) (deeper (word (the_mark CloseRound) λ _ _. done (f x.tree)))
@@ -85,7 +81,7 @@ module _ (f : Row Name → Item) {L : ℕ} {r s₁ : Parser} {l : ℕ} (ready : 
 
     pub names_read : {s₃ : Parser} → Expected (the_mark CloseRound) tt s₂ s₃ → Passed (RowAt NameAt) L r s₃ (here (names_script f)) (λ xs. here (done (f xs))) i
     names_read {s₃} h =
-        let m : Moves s₂ s₃ = moves_took s₂ s₃ x.goes.moves.ready (word_left (the_mark CloseRound) tt s₂ h.is) h.took in
+        let m : Moves s₂ s₃ = moves_took s₂ s₃ (word_left (the_mark CloseRound) tt s₂ h.is) h.took in
         record {
           tree = x.tree;
           below = omega (arith, x.below, m.more);

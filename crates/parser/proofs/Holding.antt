@@ -1,12 +1,13 @@
 -- A tree that stands in the table stays there, and a new node holds its parts.
 use Rattle.std.proofs.Common.{◌≡◌, ℕ, ◌<◌, ◌≤◌, ◌≢◌, List, length, get_or, set, ap, ◌∙◌, arith, get_or-set_other, get_or-set_same}
 use Rattle.words.specs.Token.{Word}
-use Rattle.grammar.specs.Tree.{Name, Exp, literal, simple, subscripted, prefixed, joined, bracketed, compared}
+use Rattle.grammar.specs.Grammar.{Part, Tree}
+use Rattle.grammar.specs.Tree.{Row, one, more, Name, Exp, literal, simple, subscripted, prefixed, joined, bracketed, compared}
 use Rattle.parser.specs.declared.node.Node.{Node}
-use Rattle.parser.specs.declared.node.Node.TheVariants.{Empty, Subscripted, Prefixed, Joined, Bracketed, Compared}
+use Rattle.parser.specs.declared.node.Node.TheVariants.{Empty, Subscripted, Prefixed, Joined, Bracketed, Compared, More}
 use Rattle.parser.specs.declared.table.Parser.{Parser}
-use Rattle.parser.specs.Records.{nodes, all, view, node, Named, One, Two, ExpAt, NameAt}
-use Rattle.parser.specs.Promises.{Ready, Made, Moves}
+use Rattle.parser.specs.Records.{nodes, all, View, view, node, Named, One, Two, ExpAt, NameAt, RowAt}
+use Rattle.parser.specs.Promises.{Made, Moves}
 use Rattle.parser.proofs.Tables.{length_nodes}
 
 -- From s to q the words and the nodes made before stay.
@@ -54,9 +55,19 @@ module _ (s q : Parser) (m : Keeps s q) where
   name_stays x i lt h = (h.0, m.kept i lt ∙ h.1, named_stays h.0 x h.2)
 
 -- The node that was made stands at its place.
-pub made_node : (n : Node) (i : ℕ) (s q : Parser) → Ready s → s.made < s.at → Made n i s q → node (view q) i ≡ n
-made_node n i s q h paid t =
-    ap (λ (l : List Node). get_or l i Empty) t.nodes ∙ (ap (λ j. get_or (set (nodes s.table.now) s.made n) j Empty) t.place ∙ same (nodes s.table.now) s.made (omega (arith, length_nodes s.table.now, h.within, h.room)))
+pub made_node : (n : Node) (i : ℕ) (s q : Parser) → s.made < s.at → Made n i s q → node (view q) i ≡ n
+made_node n i s q paid t =
+    ap (λ (l : List Node). get_or l i Empty) t.nodes ∙ (ap (λ j. get_or (set (nodes s.table.now) s.made n) j Empty) t.place ∙ same (nodes s.table.now) s.made (omega (arith, length_nodes s.table.now, s.within, s.room)))
   where
     same : (l : List Node) (i : ℕ) → i < length l → get_or (set l i n) i Empty ≡ n
     same l i lt = rw get_or-set_same
+
+-- What a part's tree at a node needs to stay there.
+abbrev pub Stays : {A : Type 0} → (View → A → ℕ → Type 0) → Type 0
+Stays {A} At = (s q : Parser) → Keeps s q → (t : A) (i : ℕ) → i < s.made → At (view s) t i → At (view q) t i
+
+module _ (p : Part) (At : View → Tree p → ℕ → Type 0) (stays : Stays At) where
+  pub row_stays : (s q : Parser) → Keeps s q → (ts : Row (Tree p)) (i : ℕ) → i < s.made → RowAt At (view s) ts i → RowAt At (view q) ts i
+  row_stays s q m (one t) i lt h = stays s q m t i lt h
+  row_stays s q m (more ts t) i lt h =
+      two_stays s q m i More (λ j. RowAt At (view s) ts j) (λ j. At (view s) t j) (λ j. RowAt At (view q) ts j) (λ j. At (view q) t j) lt (λ j k. row_stays s q m ts j k) (λ j k. stays s q m t j k) h

@@ -1,59 +1,54 @@
 -- The ways through items, and the end of a program.
-use Rattle.std.proofs.Common.{◌≡◌, ℕ, ◌<◌, true, List, [], ◌∷◌, length, Some, None, Ok, Err, Result, sym, refl, ap, ◌∙◌, arith}
+use Rattle.std.proofs.Common.{◌≡◌, ℕ, ◌<◌, true, false, List, [], ◌∷◌, length, Some, None, Ok, Err, Result, sym, refl, ap, ◌∙◌, arith}
 use Rattle.words.specs.declared.token.Mark.TheVariants.{Becomes, OpenRound, CloseRound}
+use Rattle.words.specs.declared.token.Keyword.{Keyword}
 use Rattle.words.specs.declared.token.Keyword.TheVariants.{Comment, Integer, Boolean, Array, Switch}
 use Rattle.words.specs.Token.{Word}
 use Rattle.grammar.specs.declared.refusal.SentenceRefusal.TheVariants.{Unexpected}
-use Rattle.grammar.specs.Tree.{Program, comment, integer, boolean, array, switch, action}
-use Rattle.grammar.specs.Classes.{heads, the_mark, the_keyword}
+use Rattle.grammar.specs.Tree.{Row, Name, Item, Program, comment, array, switch, action}
+use Rattle.grammar.specs.Classes.{heads, the_mark, the_keyword, opens}
 use Rattle.grammar.specs.Grammar.{a, row, identifier, group, statement, item}
-use Rattle.grammar.specs.Parser.{begin, done, word, part, goto, item_script, names_script, arrays_script, switch_script, statement_item, nothing, at, run, tree, refused, parsed}
-use Rattle.parser.specs.declared.node.Node.TheVariants.{Comment as CommentNode, Integer as IntegerNode, Boolean as BooleanNode, Array as ArrayNode, Switch as SwitchNode}
+use Rattle.grammar.specs.Parser.{begin, done, word, part, goto, item_script, names_script, arrays_script, switch_script, statement_item, nothing, Around, at, moved, run, tree, refused, parsed}
+use Rattle.grammar.proofs.Found.{token_of}
+use Rattle.parser.specs.declared.node.Node.TheVariants.{Comment as CommentNode, Array as ArrayNode, Switch as SwitchNode}
+use Rattle.parser.specs.declared.node.Node.{Node}
 use Rattle.parser.specs.declared.refusal.Refusal.{Refusal}
 use Rattle.parser.specs.declared.table.Parser.{Parser}
-use Rattle.parser.specs.Records.{ahead, NameAt, RowAt, GroupAt, StatementAt, Item_at}
-use Rattle.parser.specs.Promises.{Ready, Took, Made, Moves, place_of, here, deeper, Goes, Read, Reads, Passed}
+use Rattle.parser.specs.Records.{ahead, view, One, NameAt, RowAt, GroupAt, StatementAt, Item_at}
+use Rattle.parser.specs.Promises.{Took, Made, Moves, place_of, here, deeper, Goes, Read, Reads, Passed}
 use Rattle.parser.specs.Expecting.{Expected, NameExpected, Opened}
 use Rattle.parser.specs.Whole.{ProgramRead}
 use Rattle.parser.proofs.Tables.{word_left}
 use Rattle.parser.proofs.Moving.{moves_none, moves_took}
 use Rattle.parser.proofs.Going.{goes_start, goes_trans, goes_alike, goes_word}
-use Rattle.parser.proofs.Holding.{name_stays}
-use Rattle.parser.proofs.Rows.{row_stays}
+use Rattle.parser.proofs.Holding.{name_stays, row_stays}
 use Rattle.parser.proofs.Naming.{next_named, name_taken}
 use Rattle.parser.proofs.Standing.{group_stays, stands, made_read}
 use Rattle.parser.proofs.Stepping.{goes_else, goes_on, goes_closing, goes_opening, goes_behind, goes_behind_deeper, fails_behind}
 
 -- A comment.
-pub comment_read : (L : ℕ) (r s₁ q : Parser) (m : ℕ) → Ready r → heads (the_keyword Comment) (ahead r) ≡ Some tt → Took true r s₁ → Made CommentNode m s₁ q
+pub comment_read : (L : ℕ) (r s₁ q : Parser) (m : ℕ) → heads (the_keyword Comment) (ahead r) ≡ Some tt → Took true r s₁ → Made CommentNode m s₁ q
     → record { moves : Moves r q; reads : Read Item_at L r q (here (goto (begin (a item)))) m }
-comment_read L r s₁ q m ready e t k =
-    made_read {L = L} Item_at CommentNode m q ready (goes_word (the_keyword Comment) tt s₁ (λ _. here (done comment)) (goes_start ready) e t refl (λ d b k. refl)) (omega (arith, t.at, t.made)) k (λ w. w)
+comment_read L r s₁ q m e t k =
+    made_read {L = L} Item_at CommentNode m q (goes_word (the_keyword Comment) tt s₁ (λ _. here (done comment)) goes_start e t refl (λ d b k. refl)) (omega (arith, t.at, t.made)) k (λ w. w)
 
 -- Integers or Booleans: the names in brackets were read.
-module _ {L : ℕ} {r s₁ : Parser} (ready : Ready r) (t : Took true r s₁) where
-  pub integers_begun : heads (the_keyword Integer) (ahead r) ≡ Some tt → Goes L r s₁ (here (goto (begin (a item)))) (here (names_script integer))
-  integers_begun e = goes_word (the_keyword Integer) tt s₁ (λ _. here (names_script integer)) (goes_start ready) e t refl (λ d b k. refl)
+module _ (w : Keyword) (f : Row Name → Item) (n : ℕ → Node) {L : ℕ} {r s₁ : Parser} (e : heads (the_keyword w) (ahead r) ≡ Some tt) (quiet : opens (token_of (the_keyword w) tt) ≡ false)
+    (takes : (d b : ℕ) (k : Around (a item)) → moved (at d (goto (begin (a item))) k) (token_of (the_keyword w) tt) b ≡ Some (at d (names_script f) k)) (t : Took true r s₁) where
+  pub names_item_begun : Goes L r s₁ (here (goto (begin (a item)))) (here (names_script f))
+  names_item_begun = goes_word (the_keyword w) tt s₁ (λ _. here (names_script f)) goes_start e t quiet takes
 
-  pub booleans_begun : heads (the_keyword Boolean) (ahead r) ≡ Some tt → Goes L r s₁ (here (goto (begin (a item)))) (here (names_script boolean))
-  booleans_begun e = goes_word (the_keyword Boolean) tt s₁ (λ _. here (names_script boolean)) (goes_start ready) e t refl (λ d b k. refl)
-
-  pub integers_read : (s₂ q : Parser) (i m : ℕ) → heads (the_keyword Integer) (ahead r) ≡ Some tt → Passed (RowAt NameAt) L s₁ s₂ (here (names_script integer)) (λ xs. here (done (integer xs))) i → Made (IntegerNode i) m s₂ q
+  pub names_item_read : (s₂ q : Parser) (i m : ℕ) → Passed (RowAt NameAt) L s₁ s₂ (here (names_script f)) (λ xs. here (done (f xs))) i → Made (n i) m s₂ q
+      → ((xs : Row Name) → One (view q) m n (λ p. RowAt NameAt (view q) xs p) → Item_at (view q) (f xs) m)
       → record { moves : Moves r q; reads : Read Item_at L r q (here (goto (begin (a item)))) m }
-  integers_read s₂ q i m e x k =
-      let u = stands (RowAt NameAt) (row_stays identifier NameAt name_stays) (IntegerNode i) m s₂ s₂ q (moves_none s₂ x.goes.moves.ready) k x.tree i x.below x.held in
-      made_read Item_at (IntegerNode i) m q ready (goes_trans (integers_begun e) x.goes) (omega (arith, t.at, t.made, x.goes.moves.thrift)) k (λ w. (i, w, u.below, u.held))
-
-  pub booleans_read : (s₂ q : Parser) (i m : ℕ) → heads (the_keyword Boolean) (ahead r) ≡ Some tt → Passed (RowAt NameAt) L s₁ s₂ (here (names_script boolean)) (λ xs. here (done (boolean xs))) i → Made (BooleanNode i) m s₂ q
-      → record { moves : Moves r q; reads : Read Item_at L r q (here (goto (begin (a item)))) m }
-  booleans_read s₂ q i m e x k =
-      let u = stands (RowAt NameAt) (row_stays identifier NameAt name_stays) (BooleanNode i) m s₂ s₂ q (moves_none s₂ x.goes.moves.ready) k x.tree i x.below x.held in
-      made_read Item_at (BooleanNode i) m q ready (goes_trans (booleans_begun e) x.goes) (omega (arith, t.at, t.made, x.goes.moves.thrift)) k (λ w. (i, w, u.below, u.held))
+  names_item_read s₂ q i m x k stand =
+      let u = stands (RowAt NameAt) (row_stays identifier NameAt name_stays) (n i) m s₂ s₂ q (moves_none s₂) k x.tree i x.below x.held in
+      made_read Item_at (n i) m q (goes_trans names_item_begun x.goes) (omega (arith, t.at, t.made, x.goes.moves.thrift)) k (λ z. stand x.tree (i, z, u.below, u.held))
 
 -- Arrays: `(` opens a level, the groups are read, and `)` closes it.
-module _ {L : ℕ} {r s₁ : Parser} (ready : Ready r) (e₁ : heads (the_keyword Array) (ahead r) ≡ Some tt) (t₁ : Took true r s₁) where
+module _ {L : ℕ} {r s₁ : Parser} (e₁ : heads (the_keyword Array) (ahead r) ≡ Some tt) (t₁ : Took true r s₁) where
   pub arrays_begun : Goes L r s₁ (here (goto (begin (a item)))) (here arrays_script)
-  arrays_begun = goes_word (the_keyword Array) tt s₁ (λ _. here arrays_script) (goes_start ready) e₁ t₁ refl (λ d b k. refl)
+  arrays_begun = goes_word (the_keyword Array) tt s₁ (λ _. here arrays_script) goes_start e₁ t₁ refl (λ d b k. refl)
 
   module _ {s₂ : Parser} {l : ℕ} (e₂ : heads (the_mark OpenRound) (ahead s₁) ≡ Some tt) (o : Opened L s₁ s₂ l) where
     pub arrays_opened : Goes L r s₂ (here (goto (begin (a item)))) (deeper (part (begin (row group)) λ gs. word (the_mark CloseRound) λ _ _. done (array gs)))
@@ -65,15 +60,15 @@ module _ {L : ℕ} {r s₁ : Parser} (ready : Ready r) (e₁ : heads (the_keywor
 
       pub arrays_read : (s₄ q : Parser) (m : ℕ) → Expected (the_mark CloseRound) tt s₃ s₄ → Made (ArrayNode i) m s₄ q → record { moves : Moves r q; reads : Read Item_at L r q (here (goto (begin (a item)))) m }
       arrays_read s₄ q m h k =
-          let m₃ : Moves s₃ s₄ = moves_took s₃ s₄ x.goes.moves.ready (word_left (the_mark CloseRound) tt s₃ h.is) h.took in
+          let m₃ : Moves s₃ s₄ = moves_took s₃ s₄ (word_left (the_mark CloseRound) tt s₃ h.is) h.took in
           let u = stands (RowAt GroupAt) (row_stays group GroupAt group_stays) (ArrayNode i) m s₃ s₄ q m₃ k x.tree i x.below x.held in
-          made_read Item_at (ArrayNode i) m q ready (goes_closing h refl refl (λ d. refl) arrays_inner)
+          made_read Item_at (ArrayNode i) m q (goes_closing h refl refl (λ d. refl) arrays_inner)
           (omega (arith, t₁.at, t₁.made, o.took.at, o.took.made, x.goes.moves.thrift, h.took.at, h.took.made)) k (λ w. (i, w, u.below, u.held))
 
 -- A switch: a name, `:=`, and the labels in brackets.
-module _ {L : ℕ} {r s₁ : Parser} (ready : Ready r) (e₁ : heads (the_keyword Switch) (ahead r) ≡ Some tt) (t₁ : Took true r s₁) where
+module _ {L : ℕ} {r s₁ : Parser} (e₁ : heads (the_keyword Switch) (ahead r) ≡ Some tt) (t₁ : Took true r s₁) where
   pub switch_begun : Goes L r s₁ (here (goto (begin (a item)))) (here switch_script)
-  switch_begun = goes_word (the_keyword Switch) tt s₁ (λ _. here switch_script) (goes_start ready) e₁ t₁ refl (λ d b k. refl)
+  switch_begun = goes_word (the_keyword Switch) tt s₁ (λ _. here switch_script) goes_start e₁ t₁ refl (λ d b k. refl)
 
   module _ {s₂ : Parser} {w : ℕ} (h₂ : NameExpected s₁ s₂ w) where
     pub switch_named : Goes L r s₂ (here (goto (begin (a item)))) (here (word (the_mark Becomes) λ _ _. names_script (switch (next_named s₁ (name_taken s₁ w h₂.is).letters))))
@@ -87,19 +82,19 @@ module _ {L : ℕ} {r s₁ : Parser} (ready : Ready r) (e₁ : heads (the_keywor
           → Passed (RowAt NameAt) L s₃ s₄ (here (names_script (switch (next_named s₁ (name_taken s₁ w h₂.is).letters)))) (λ xs. here (done (switch (next_named s₁ (name_taken s₁ w h₂.is).letters) xs))) i
           → Made (SwitchNode w i) m s₄ q → record { moves : Moves r q; reads : Read Item_at L r q (here (goto (begin (a item)))) m }
       switch_read s₄ q i m x k =
-          let u = stands (RowAt NameAt) (row_stays identifier NameAt name_stays) (SwitchNode w i) m s₄ s₄ q (moves_none s₄ x.goes.moves.ready) k x.tree i x.below x.held in
-          made_read Item_at (SwitchNode w i) m q ready (goes_trans switch_becomes x.goes)
+          let u = stands (RowAt NameAt) (row_stays identifier NameAt name_stays) (SwitchNode w i) m s₄ s₄ q (moves_none s₄) k x.tree i x.below x.held in
+          made_read Item_at (SwitchNode w i) m q (goes_trans switch_becomes x.goes)
           (omega (arith, t₁.at, t₁.made, h₂.took.at, h₂.took.made, h₃.took.at, h₃.took.made, x.goes.moves.thrift)) k
           (λ z. (w, (i, z, u.below, u.held), (name_taken s₁ w h₂.is).named q (k.same.words ∙ (x.goes.moves.same.words ∙ (h₃.took.same.words ∙ h₂.took.same.words)))))
 
 -- Where no other item begins, it is a statement.
-pub action_reads : (L : ℕ) (r q : Parser) (res : Result ℕ Refusal) → Ready r → heads (the_keyword Comment) (ahead r) ≡ None → heads (the_keyword Integer) (ahead r) ≡ None → heads (the_keyword Boolean) (ahead r) ≡ None
+pub action_reads : (L : ℕ) (r q : Parser) (res : Result ℕ Refusal) → heads (the_keyword Comment) (ahead r) ≡ None → heads (the_keyword Integer) (ahead r) ≡ None → heads (the_keyword Boolean) (ahead r) ≡ None
     → heads (the_keyword Array) (ahead r) ≡ None → heads (the_keyword Switch) (ahead r) ≡ None → Reads StatementAt L r q (here (goto (begin (a statement)))) res → Reads Item_at L r q (here (goto (begin (a item)))) res
-action_reads L r q res ready e₁ e₂ e₃ e₄ e₅ = by res
+action_reads L r q res e₁ e₂ e₃ e₄ e₅ = by res
   where
     begun : Goes L r r (here (goto (begin (a item)))) (here (part (begin (a statement)) statement_item))
     begun =
-        let g : Goes L r r (here (goto (begin (a item)))) (here item_script) = goes_alike (goes_start ready) (λ d k t n. refl) (λ d k. refl) in
+        let g : Goes L r r (here (goto (begin (a item)))) (here item_script) = goes_alike goes_start (λ d k t n. refl) (λ d k. refl) in
         goes_alike (goes_else e₅ refl (goes_else e₄ refl (goes_else e₃ refl (goes_else e₂ refl (goes_else e₁ refl g))))) (λ d k t n. refl) (λ d k. refl)
 
     by : (res : Result ℕ Refusal) → Reads StatementAt L r q (here (goto (begin (a statement)))) res → Reads Item_at L r q (here (goto (begin (a item)))) res

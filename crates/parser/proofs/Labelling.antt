@@ -10,7 +10,7 @@ use Rattle.grammar.proofs.Found.{none_some}
 use Rattle.grammar.proofs.Steps.{part_waits, handed_on}
 use Rattle.parser.specs.declared.table.Parser.{Parser}
 use Rattle.parser.specs.Records.{ahead, view, Named}
-use Rattle.parser.specs.Promises.{Ready, Took, Moves, instead, here, Goes}
+use Rattle.parser.specs.Promises.{Took, Moves, instead, here, Goes}
 use Rattle.parser.specs.Labels.{is_label, with_labels, labels_around, LabelsAt, LabelsPassed}
 use Rattle.parser.proofs.Tables.{word_left}
 use Rattle.parser.proofs.Moving.{moves_none, moves_trans, moves_took, took_ahead}
@@ -79,8 +79,8 @@ pub labels_stay : (s q : Parser) → Keeps s q → (first : ℕ) (xs : List Name
 labels_stay s q k first [] n h = h
 labels_stay s q k first (x ∷ xs) n h = (h.0, h.1, named_stays s q k (first + 2 * h.0) x h.2, labels_stay s q k first xs h.0 h.3)
 
-pub labels_none : (r : Parser) → Ready r → LabelsPassed r r 0
-labels_none r h = record { moves = moves_none r h; made = refl; on = omega arith; names = []; stand = refl; leads = λ L limit d k e. refl }
+pub labels_none : (r : Parser) → LabelsPassed r r 0
+labels_none r = record { moves = moves_none r; made = refl; on = omega arith; names = []; stand = refl; leads = λ L limit d k e. refl }
 
 named_there : (s : Parser) (w u : ℕ) (x : Name) → w ≡ u → Named (view s) w x → Named (view s) u x
 named_there s w u x e h = rw e at h
@@ -92,8 +92,8 @@ module _ (r s s₁ s₂ : Parser) (n : ℕ) (p : LabelsPassed r s n) (e : is_lab
       let x = label_name s e in
       let nm = name_taken s s.at (sym (ap (λ (o : Option (List ℕ)). instead s.at o) x.1)) in
       let colon = label_colon s s₁ e t₁ in
-      let m₁ : Moves s s₁ = moves_took s s₁ p.moves.ready (word_left a_name x.0 s x.1) t₁ in
-      let m₂ : Moves s s₂ = moves_trans s s₁ s₂ m₁ (moves_took s₁ s₂ m₁.ready (word_left (the_mark Colon) tt s₁ colon) t₂) in
+      let m₁ : Moves s s₁ = moves_took s s₁ (word_left a_name x.0 s x.1) t₁ in
+      let m₂ : Moves s s₂ = moves_trans s s₁ s₂ m₁ (moves_took s₁ s₂ (word_left (the_mark Colon) tt s₁ colon) t₂) in
       let y = next_named s nm.letters in
       record {
         moves = moves_trans r s s₂ p.moves m₂;
@@ -108,7 +108,7 @@ module _ (r s s₁ s₂ : Parser) (n : ℕ) (p : LabelsPassed r s n) (e : is_lab
           → run limit (length r.text.now) (ahead s) (at d (goto (begin (a statement))) k) ≡ run limit (length r.text.now) (ahead s₂) (at d (part (begin (a statement)) λ t. done (labelled (next_named s x) t)) k)
       through L limit d k h x e colon =
           let g : Goes L s s₂ (here (goto (begin (a statement)))) (here (part (begin (a statement)) λ t. done (labelled (next_named s x) t))) = goes_on (record { is = colon; took = t₂ }) refl refl (λ d. refl) (goes_first colon
-          (goes_word {L = L} a_name x s₁ (λ b. here (named_script (record { letters = x; place = b }))) (goes_start p.moves.ready) e t₁ refl (λ d b k. refl))) in
+          (goes_word {L = L} a_name x s₁ (λ b. here (named_script (record { letters = x; place = b }))) goes_start e t₁ refl (λ d b k. refl))) in
           rw (sym (ap length p.moves.same.text)) (g.leads limit d k h)
 
 -- The statement behind the labels is done, and so is the whole.

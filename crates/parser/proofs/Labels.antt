@@ -8,7 +8,7 @@ use Rattle.parser.specs.declared.node.Node.TheVariants.{Empty, Labelled}
 use Rattle.parser.specs.declared.refusal.Refusal.{Refusal}
 use Rattle.parser.specs.declared.table.Parser.{Parser}
 use Rattle.parser.specs.Records.{nodes, all, ahead, view, Named, StatementAt}
-use Rattle.parser.specs.Promises.{Ready, SameText, Made, Moves, here, Fails, Read}
+use Rattle.parser.specs.Promises.{SameText, Made, Moves, here, Fails, Read}
 use Rattle.parser.specs.Labels.{with_labels, labels_around, LabelsAt, LabelsPassed, LabelsMade}
 use Rattle.parser.proofs.Moving.{same_trans}
 use Rattle.parser.proofs.Holding.{Keeps, moves_keep, made_keeps, named_stays, made_node}
@@ -18,7 +18,6 @@ use Rattle.parser.proofs.Labelling.{labels_stay, labels_done}
 -- Of n labels around the statement at node j, `left` are still to be made; node i has the others.
 pub record LabelsMaking (first n j : ℕ) (r s : Parser) (left i : ℕ) : Type 0 where
   pub same : SameText r s
-  pub ready : Ready s
   pub on : s.at ≡ r.at
   pub made : s.made + left ≡ r.made + n
   pub little : left ≤ n
@@ -28,10 +27,9 @@ pub record LabelsMaking (first n j : ℕ) (r s : Parser) (left i : ℕ) : Type 0
       → (ys : List Name) × (u : Statement) × LabelsAt (view s) first ys left × StatementAt (view s) u i × (with_labels ys u ≡ with_labels xs t)
 
 module _ (first n j : ℕ) where
-  pub making_none : (r : Parser) → Ready r → j < r.made → LabelsMaking first n j r r n j
-  making_none r h lt = record {
+  pub making_none : (r : Parser) → j < r.made → LabelsMaking first n j r r n j
+  making_none r lt = record {
     same = record { text = refl; words = refl; count = refl; lent = refl; size = refl };
-    ready = h;
     on = refl;
     made = refl;
     little = omega arith;
@@ -47,7 +45,6 @@ module _ (first n j : ℕ) where
       let keep = made_keeps (Labelled (first + 2 * rest) i) m s q k in
       record {
         same = same_trans r s q p.same k.same;
-        ready = record { within = omega (arith, k.at, k.same.count, p.ready.within); room = omega (arith, k.same.count, k.same.size, p.ready.room); thrift = omega (arith, k.at, k.made) };
         on = k.at ∙ p.on;
         made = omega (arith, k.made, p.made);
         little = omega (arith, p.little);
@@ -68,7 +65,7 @@ module _ (first n j : ℕ) where
             rw same at (labels_stay s q keep first ys h.0 h.3),
             (
               first + 2 * rest,
-              (i, made_node (Labelled (first + 2 * rest) i) m s q p.ready paid k, omega (arith, p.below, k.place), statement_stays s q keep u i p.below x),
+              (i, made_node (Labelled (first + 2 * rest) i) m s q paid k, omega (arith, p.below, k.place), statement_stays s q keep u i p.below x),
               named_stays s q keep (first + 2 * rest) y nm,
             ),
             e,
@@ -77,7 +74,6 @@ module _ (first n j : ℕ) where
   pub making_done : (r s : Parser) (left i : ℕ) → LabelsMaking first n j r s left i → left ≡ 0 → LabelsMade first n j r s i
   making_done r s left i p z = record {
     same = p.same;
-    ready = p.ready;
     at = p.on;
     made = omega (arith, p.made);
     kept = p.kept;
@@ -95,14 +91,13 @@ module _ (L : ℕ) {r s : Parser} {n : ℕ} (p : LabelsPassed r s n) where
   pub labelled_fails : (e : Refusal) → Fails L s (here (goto (begin (a statement)))) e → Fails L r (here (goto (begin (a statement)))) e
   labelled_fails e f limit d k h = p.leads L limit d k h ∙ rw (sym (ap length p.moves.same.text)) (f limit d (labels_around d p.names k) h)
 
-  pub labelled_read : (u q : Parser) (j i : ℕ) → Ready r → Read StatementAt L s u (here (goto (begin (a statement)))) j → LabelsMade r.at n j u q i
+  pub labelled_read : (u q : Parser) (j i : ℕ) → Read StatementAt L s u (here (goto (begin (a statement)))) j → LabelsMade r.at n j u q i
       → record { moves : Moves r q; reads : Read StatementAt L r q (here (goto (begin (a statement)))) i }
-  labelled_read u q j i ready x k =
+  labelled_read u q j i x k =
       let m : Moves s u = x.goes.moves in
       let keeps : Keeps s u = moves_keep s u m in
       let moves : Moves r q = record {
         same = same_trans r u q (same_trans r s u p.moves.same m.same) k.same;
-        ready = k.ready;
         on = omega (arith, p.moves.on, m.on, k.at);
         more = omega (arith, p.made, m.more, k.made);
         thrift = omega (arith, p.made, p.on, m.thrift, k.made, k.at);

@@ -3,6 +3,7 @@ pub mod Moving
 pub mod Going
 pub mod Holding
 pub mod Naming
+pub mod Taking
 pub mod Rows
 pub mod Operators
 pub mod Factors

@@ -5,18 +5,17 @@ use Rattle.parser.specs.declared.node.Node.{Node}
 use Rattle.parser.specs.declared.node.Node.TheVariants.{Empty}
 use Rattle.parser.specs.declared.table.Parser.{Parser}
 use Rattle.parser.specs.Records.{nodes, all, ahead}
-use Rattle.parser.specs.Promises.{Ready, SameText, Took, Made, Moves}
+use Rattle.parser.specs.Promises.{SameText, Took, Made, Moves}
 
 pub same_trans : (r s q : Parser) → SameText r s → SameText s q → SameText r q
 same_trans r s q h k = record { text = k.text ∙ h.text; words = k.words ∙ h.words; count = k.count ∙ h.count; lent = k.lent ∙ h.lent; size = k.size ∙ h.size }
 
-pub moves_none : (r : Parser) → Ready r → Moves r r
-moves_none r h = record { same = record { text = refl; words = refl; count = refl; lent = refl; size = refl }; ready = h; on = omega arith; more = omega arith; thrift = omega arith; kept = λ j x. refl }
+pub moves_none : (r : Parser) → Moves r r
+moves_none r = record { same = record { text = refl; words = refl; count = refl; lent = refl; size = refl }; on = omega arith; more = omega arith; thrift = omega arith; kept = λ j x. refl }
 
 pub moves_trans : (r s q : Parser) → Moves r s → Moves s q → Moves r q
 moves_trans r s q h k = record {
   same = same_trans r s q h.same k.same;
-  ready = k.ready;
   on = omega (arith, h.on, k.on);
   more = omega (arith, h.more, k.more);
   thrift = omega (arith, h.thrift, k.thrift);
@@ -24,10 +23,9 @@ moves_trans r s q h k = record {
 }
 
 -- A word is taken.
-pub moves_took : (r s : Parser) → Ready r → r.at < r.count → Took true r s → Moves r s
-moves_took r s h lt t = record {
+pub moves_took : (r s : Parser) → r.at < r.count → Took true r s → Moves r s
+moves_took r s lt t = record {
   same = t.same;
-  ready = record { within = omega (arith, t.at, t.same.count); room = omega (arith, t.same.count, t.same.size, h.room); thrift = omega (arith, t.at, t.made, h.thrift) };
   on = omega (arith, t.at);
   more = omega (arith, t.made);
   thrift = omega (arith, t.at, t.made);
@@ -35,10 +33,9 @@ moves_took r s h lt t = record {
 }
 
 -- None is taken.
-pub moves_left : (r s : Parser) → Ready r → Took false r s → Moves r s
-moves_left r s h t = record {
+pub moves_left : (r s : Parser) → Took false r s → Moves r s
+moves_left r s t = record {
   same = t.same;
-  ready = record { within = omega (arith, t.at, t.same.count, h.within); room = omega (arith, t.same.count, t.same.size, h.room); thrift = omega (arith, t.at, t.made, h.thrift) };
   on = omega (arith, t.at);
   more = omega (arith, t.made);
   thrift = omega (arith, t.at, t.made);
@@ -49,7 +46,6 @@ moves_left r s h t = record {
 pub moves_made : (n : Node) (i : ℕ) (r s q : Parser) → Moves r s → s.made < s.at → s.made + r.at < r.made + s.at → Made n i s q → Moves r q
 moves_made n i r s q m paid lt k = record {
   same = same_trans r s q m.same k.same;
-  ready = record { within = omega (arith, k.at, k.same.count, m.ready.within); room = omega (arith, k.same.count, k.same.size, m.ready.room); thrift = omega (arith, k.at, k.made) };
   on = omega (arith, k.at, m.on);
   more = omega (arith, k.made, m.more);
   thrift = omega (arith, k.at, k.made);

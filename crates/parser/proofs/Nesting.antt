@@ -13,44 +13,29 @@ use Rattle.parser.specs.declared.node.Node.TheVariants.{Conditional, Repeated}
 use Rattle.parser.specs.declared.refusal.Refusal.{Refusal}
 use Rattle.parser.specs.declared.table.Parser.{Parser}
 use Rattle.parser.specs.Records.{ahead, view, ExpAt, ElementAt, RowAt, StatementAt}
-use Rattle.parser.specs.Promises.{Ready, Made, Moves, here, deeper, Goes, Fails, Read}
+use Rattle.parser.specs.Promises.{Made, Moves, here, deeper, Goes, Fails, Read}
 use Rattle.parser.specs.Expecting.{Expected, NameExpected, RefusedAt, Opened, IsTooDeep}
 use Rattle.parser.proofs.Tables.{word_left}
 use Rattle.parser.proofs.Moving.{moves_none, moves_trans, moves_took}
 use Rattle.parser.proofs.Going.{goes_start, goes_alike, goes_deeper, goes_out, fails_here}
-use Rattle.parser.proofs.Factors.{deep_refused}
-use Rattle.parser.proofs.Holding.{exp_stays, moves_keep}
-use Rattle.parser.proofs.Rows.{row_stays}
+use Rattle.parser.proofs.Holding.{exp_stays, moves_keep, row_stays}
 use Rattle.parser.proofs.Naming.{next_place, next_named, name_taken}
 use Rattle.parser.proofs.Standing.{element_stays, statement_stays, block_at, stands, made_read}
-use Rattle.parser.proofs.Stepping.{goes_else, goes_on_deeper, goes_closing, goes_behind_deeper, fails_missing}
+use Rattle.parser.proofs.Stepping.{part_opened, goes_else, goes_on_deeper, goes_closing, goes_behind_deeper, fails_missing}
 
 -- No statement begins with the next word.
-pub statement_missing : (L : ℕ) (r : Parser) (e : Refusal) → Ready r → heads (the_keyword If) (ahead r) ≡ None → heads (the_keyword For) (ahead r) ≡ None → heads (the_keyword Begin) (ahead r) ≡ None
+pub statement_missing : (L : ℕ) (r : Parser) (e : Refusal) → heads (the_keyword If) (ahead r) ≡ None → heads (the_keyword For) (ahead r) ≡ None → heads (the_keyword Begin) (ahead r) ≡ None
     → heads (the_keyword Go) (ahead r) ≡ None → heads (the_keyword In) (ahead r) ≡ None → heads (the_keyword Print) (ahead r) ≡ None → heads (the_keyword Stop) (ahead r) ≡ None → heads a_name (ahead r) ≡ None
     → RefusedAt Unexpected r e → Fails L r (here (goto (begin (a statement)))) e
-statement_missing L r e ready e₁ e₂ e₃ e₄ e₅ e₆ e₇ e₈ h =
-    let g : Goes L r r (here (goto (begin (a statement)))) (here statement_script) = goes_alike (goes_start ready) (λ d k t n. refl) (λ d k. refl) in
+statement_missing L r e e₁ e₂ e₃ e₄ e₅ e₆ e₇ e₈ h =
+    let g : Goes L r r (here (goto (begin (a statement)))) (here statement_script) = goes_alike goes_start (λ d k t n. refl) (λ d k. refl) in
     fails_missing e (record { is = e₇; refused = h })
     (goes_else e₈ refl (goes_else e₆ refl (goes_else e₅ refl (goes_else e₄ refl (goes_else e₃ refl (goes_else e₂ refl (goes_else e₁ refl g)))))))
 
--- A statement's first word opens a level, or none is left.
-module _ (w : Keyword) (f : ℕ → Script (a statement)) {L : ℕ} {r : Parser} (ready : Ready r) (e : heads (the_keyword w) (ahead r) ≡ Some tt)
-    (takes : (d b : ℕ) (k : Around (a statement)) → moved (at d (goto (begin (a statement))) k) (token_of (the_keyword w) tt) b ≡ Some (at (suc d) (f b) k)) where
-  pub statement_opened : {s : Parser} {l : ℕ} → Opened L r s l → Goes L r s (here (goto (begin (a statement)))) (deeper (f (next_place r)))
-  statement_opened {s} o = goes_deeper (the_keyword w) tt s (λ b. f b) (goes_start ready) e o.took (omega (arith, o.level)) takes
-
-  pub statement_deep : (q : Parser) (u : Refusal) → opens (token_of (the_keyword w) tt) ≡ true → Moves r q → IsTooDeep L r u → record { moves : Moves r q; reads : Fails L r (here (goto (begin (a statement)))) u }
-  statement_deep q u up m h = record {
-    moves = m;
-    reads = fails_here {a = here (goto (begin (a statement)))} {b = here (goto (begin (a statement)))} u (goes_start ready) (λ limit d k i. rw (h.refused.reason, h.refused.place)
-        (deep_refused limit (length r.text.now) (the_keyword w) tt (ahead r) (at d (goto (begin (a statement))) k) e up (λ b. (at (suc d) (f b) k, takes d b k, omega (arith, h.none)))));
-  }
-
 -- if: the condition is read, then `;`, then the statement.
-module _ {L : ℕ} {r s₁ : Parser} {l : ℕ} (ready : Ready r) (e : heads (the_keyword If) (ahead r) ≡ Some tt) (o : Opened L r s₁ l) where
+module _ {L : ℕ} {r s₁ : Parser} {l : ℕ} (e : heads (the_keyword If) (ahead r) ≡ Some tt) (o : Opened L r s₁ l) where
   pub if_begun : Goes L r s₁ (here (goto (begin (a statement)))) (deeper (conditional_script (next_place r)))
-  if_begun = statement_opened If conditional_script ready e (λ d b k. refl) o
+  if_begun = part_opened (the_keyword If) tt conditional_script e (λ d b k. refl) o
 
   module _ {s₂ : Parser} {i : ℕ} (x : Read ExpAt l s₁ s₂ (here (goto (begin (a exp)))) i) where
     pub condition_read : Goes L r s₂ (here (goto (begin (a statement)))) (deeper (word (the_mark Semicolon) λ _ _. part (begin (a statement)) λ t. done (conditional (next_place r) x.tree t)))
@@ -65,16 +50,16 @@ module _ {L : ℕ} {r s₁ : Parser} {l : ℕ} (ready : Ready r) (e : heads (the
       conditional_read s₄ q j b m y bi k' =
           let n = Conditional (next_place r) i j in
           let k : Made n m s₄ q = rw bi at k' in
-          let m₂ : Moves s₂ s₄ = moves_trans s₂ s₃ s₄ (moves_took s₂ s₃ x.goes.moves.ready (word_left (the_mark Semicolon) tt s₂ h.is) h.took) y.goes.moves in
+          let m₂ : Moves s₂ s₄ = moves_trans s₂ s₃ s₄ (moves_took s₂ s₃ (word_left (the_mark Semicolon) tt s₂ h.is) h.took) y.goes.moves in
           let u = stands ExpAt exp_stays n m s₂ s₄ q m₂ k x.tree i x.below x.held in
-          let v = stands StatementAt statement_stays n m s₄ s₄ q (moves_none s₄ y.goes.moves.ready) k y.tree j y.below y.held in
-          made_read StatementAt n m q ready (goes_out (goes_behind_deeper o.level tt y.goes if_body_begun))
+          let v = stands StatementAt statement_stays n m s₄ s₄ q (moves_none s₄) k y.tree j y.below y.held in
+          made_read StatementAt n m q (goes_out (goes_behind_deeper o.level tt y.goes if_body_begun))
           (omega (arith, o.took.at, o.took.made, x.goes.moves.thrift, h.took.at, h.took.made, y.goes.moves.thrift)) k (λ w. (i, j, w, u.below, v.below, u.held, v.held))
 
 -- for: a name, `:=`, the elements, `;` and the statement.
-module _ {L : ℕ} {r s₁ : Parser} {l : ℕ} (ready : Ready r) (e : heads (the_keyword For) (ahead r) ≡ Some tt) (o : Opened L r s₁ l) where
+module _ {L : ℕ} {r s₁ : Parser} {l : ℕ} (e : heads (the_keyword For) (ahead r) ≡ Some tt) (o : Opened L r s₁ l) where
   pub for_begun : Goes L r s₁ (here (goto (begin (a statement)))) (deeper (repetition_script (next_place r)))
-  for_begun = statement_opened For repetition_script ready e (λ d b k. refl) o
+  for_begun = part_opened (the_keyword For) tt repetition_script e (λ d b k. refl) o
 
   module _ {s₂ : Parser} {w : ℕ} (h₂ : NameExpected s₁ s₂ w) where
     pub for_named : Goes L r s₂ (here (goto (begin (a statement))))
@@ -99,10 +84,10 @@ module _ {L : ℕ} {r s₁ : Parser} {l : ℕ} (ready : Ready r) (e : heads (the
           repeated_read s₆ q j b m y bi k' =
               let n = Repeated (next_place r) w i j in
               let k : Made n m s₆ q = rw bi at k' in
-              let m₄ : Moves s₄ s₆ = moves_trans s₄ s₅ s₆ (moves_took s₄ s₅ x.goes.moves.ready (word_left (the_mark Semicolon) tt s₄ h₅.is) h₅.took) y.goes.moves in
+              let m₄ : Moves s₄ s₆ = moves_trans s₄ s₅ s₆ (moves_took s₄ s₅ (word_left (the_mark Semicolon) tt s₄ h₅.is) h₅.took) y.goes.moves in
               let u = stands (RowAt ElementAt) (row_stays element ElementAt element_stays) n m s₄ s₆ q m₄ k x.tree i x.below x.held in
-              let v = stands StatementAt statement_stays n m s₆ s₆ q (moves_none s₆ y.goes.moves.ready) k y.tree j y.below y.held in
-              made_read StatementAt n m q ready (goes_out (goes_behind_deeper o.level tt y.goes for_body_begun))
+              let v = stands StatementAt statement_stays n m s₆ s₆ q (moves_none s₆) k y.tree j y.below y.held in
+              made_read StatementAt n m q (goes_out (goes_behind_deeper o.level tt y.goes for_body_begun))
               (omega (arith, o.took.at, o.took.made, h₂.took.at, h₂.took.made, h₃.took.at, h₃.took.made, x.goes.moves.thrift, h₅.took.at, h₅.took.made, y.goes.moves.thrift)) k
               (λ z. (
                 w,
@@ -111,9 +96,9 @@ module _ {L : ℕ} {r s₁ : Parser} {l : ℕ} (ready : Ready r) (e : heads (the
               ))
 
 -- begin: the statements are read, then `end`.
-module _ {L : ℕ} {r s₁ : Parser} {l : ℕ} (ready : Ready r) (e : heads (the_keyword Begin) (ahead r) ≡ Some tt) (o : Opened L r s₁ l) where
+module _ {L : ℕ} {r s₁ : Parser} {l : ℕ} (e : heads (the_keyword Begin) (ahead r) ≡ Some tt) (o : Opened L r s₁ l) where
   pub block_begun : Goes L r s₁ (here (goto (begin (a statement)))) (deeper block_script)
-  block_begun = statement_opened Begin (λ _. block_script) ready e (λ d b k. refl) o
+  block_begun = part_opened (the_keyword Begin) tt (λ _. block_script) e (λ d b k. refl) o
 
   module _ {s₂ : Parser} {i : ℕ} (x : Read (RowAt StatementAt) l s₁ s₂ (here (goto (begin (row statement)))) i) where
     pub block_inside : Goes L r s₂ (here (goto (begin (a statement)))) (deeper (word (the_keyword End) λ _ _. done (block x.tree)))
@@ -121,7 +106,7 @@ module _ {L : ℕ} {r s₁ : Parser} {l : ℕ} (ready : Ready r) (e : heads (the
 
     pub block_read : {s₃ : Parser} → Expected (the_keyword End) tt s₂ s₃ → record { moves : Moves r s₃; reads : Read StatementAt L r s₃ (here (goto (begin (a statement)))) i }
     block_read {s₃} h =
-        let m : Moves s₂ s₃ = moves_took s₂ s₃ x.goes.moves.ready (word_left (the_keyword End) tt s₂ h.is) h.took in
+        let m : Moves s₂ s₃ = moves_took s₂ s₃ (word_left (the_keyword End) tt s₂ h.is) h.took in
         let g = goes_closing h refl refl (λ d. refl) block_inside in
         record {
           moves = g.moves;

@@ -13,7 +13,7 @@ use Rattle.parser.specs.declared.node.Node.TheVariants.{Joined}
 use Rattle.parser.specs.declared.refusal.Refusal.{Refusal}
 use Rattle.parser.specs.declared.table.Parser.{Parser}
 use Rattle.parser.specs.Records.{ahead, view, ExpAt}
-use Rattle.parser.specs.Promises.{Ready, Took, Made, Moves, here, Goes, Fails, Read}
+use Rattle.parser.specs.Promises.{Took, Made, Moves, here, Goes, Fails, Read}
 use Rattle.parser.proofs.Tables.{word_left}
 use Rattle.parser.proofs.Moving.{moves_none, moves_trans, moves_took, moves_left, moves_made}
 use Rattle.parser.proofs.Going.{goes_start, goes_alike, goes_word, goes_part, goes_made, goes_done, goes_left, fails_part}
@@ -38,8 +38,8 @@ operator_within m q (Additive s) x d b k h i = let e : leb m 5 ≡ true = le-leb
 operator_within m q (Multiplicative s) x d b k h i = let e : leb m 6 ≡ true = le-leb m 6 h in let f : leb 6 q ≡ true = le-leb 6 q i in rw (e, f)
 
 module _ (rk L : ℕ) where
-  pub operators_none : (r : Parser) (i b : ℕ) → Ready r → i < r.made → OperatorsGo rk L r i b r i b
-  operators_none r i b h lt = record { moves = moves_none r h; below = lt; so = λ x y. (x, y, goes_start h) }
+  pub operators_none : (r : Parser) (i b : ℕ) → i < r.made → OperatorsGo rk L r i b r i b
+  operators_none r i b lt = record { moves = moves_none r; below = lt; so = λ x y. (x, y, goes_start) }
 
   -- The next operator is taken.
   pub operator_taken : (r s q : Parser) (i b j e : ℕ) (o : Operator) (x : Exp) (g : OperatorsGo rk L r i b s j e) (y : ExpAt (view r) x i) → heads (an_operator rk e) (ahead s) ≡ Some o → Took true s q
@@ -52,7 +52,7 @@ module _ (rk L : ℕ) where
   pub operators_more : (r s s₁ s₂ s₃ : Parser) (i b j e : ℕ) (o : Operator) (n m : ℕ) → OperatorsGo rk L r i b s j e → heads (an_operator rk e) (ahead s) ≡ Some o → Took true s s₁
       → Read ExpAt L s₁ s₂ (here (goto (begin (a (ranked (suc (rank o))))))) n → s₂.made < s₂.at → Made (Joined o j n) m s₂ s₃ → OperatorsGo rk L r i b s₃ m (rank o)
   operators_more r s s₁ s₂ s₃ i b j e o n m g f t x paid k =
-      let m₁ : Moves s s₁ = moves_took s s₁ g.moves.ready (word_left (an_operator rk e) o s f) t in
+      let m₁ : Moves s s₁ = moves_took s s₁ (word_left (an_operator rk e) o s f) t in
       let m₂ : Moves s s₂ = moves_trans s s₁ s₂ m₁ x.goes.moves in
       let m₃ : Moves r s₂ = moves_trans r s s₂ g.moves m₂ in
       let strict : s₂.made + r.at < r.made + s₂.at = omega (arith, g.moves.thrift, x.goes.moves.thrift, t.at, t.made) in
@@ -66,7 +66,7 @@ module _ (rk L : ℕ) where
               (
                 j,
                 n,
-                made_node (Joined o j n) m s₂ s₃ m₂.ready paid k,
+                made_node (Joined o j n) m s₂ s₃ paid k,
                 omega (arith, g.below, m₂.more, k.place),
                 omega (arith, x.below, k.place),
                 exp_stays s s₃ (keeps_trans s s₂ s₃ (moves_keep s s₂ m₂) last) z.0 j g.below z.1,
@@ -86,7 +86,7 @@ module _ (rk L : ℕ) where
       → (x : Exp) → ExpAt (view r) x i → Read ExpAt L r q (here (goto (operators rk b x))) j
   operators_end r s q i b j e g f t x y =
       let z = g.so x y in
-      let k : Keeps s q = moves_keep s q (moves_left s q g.moves.ready t) in
+      let k : Keeps s q = moves_keep s q (moves_left s q t) in
       record {
         tree = z.0;
         below = omega (arith, g.below, k.more);

@@ -1,16 +1,15 @@
 -- Trees of elements, groups, statements and items that stand in the table stay there.
 use Rattle.std.proofs.Common.{◌≡◌, ℕ, ◌+◌, ◌<◌, ◌∙◌, arith}
 use Rattle.grammar.specs.Tree.{Row, one, more, Variable, whole, indexed, Element, single, progression, Statement, labelled, conditional, repeated, assigned, go, switched, input, printed, stop, sequence, block, Group, Item, comment, integer, boolean, array, switch, action}
-use Rattle.grammar.specs.Grammar.{Phrase, Value, identifier, element, exp, group}
+use Rattle.grammar.specs.Grammar.{Part, ranked, factor, variable, identifier, bound, group, element, statement, item, exp, Phrase, Tree, Value}
 use Rattle.grammar.specs.Parser.{done}
 use Rattle.parser.specs.declared.node.Node.{Node}
 use Rattle.parser.specs.declared.node.Node.TheVariants.{Subscripted, Progression, More, Labelled, Conditional, Repeated, Assigned, Switched, Input, Printed, Integer, Boolean, Array, Group as GroupNode, Switch}
 use Rattle.parser.specs.declared.table.Parser.{Parser}
-use Rattle.parser.specs.Records.{View, view, node, ExpAt, VariableAt, ElementAt, NameAt, RowAt, StatementAt, GroupAt, Item_at}
-use Rattle.parser.specs.Promises.{Ready, Made, Moves, Spot, here, Goes, Read}
+use Rattle.parser.specs.Records.{View, view, node, ExpAt, VariableAt, ElementAt, NameAt, RowAt, StatementAt, GroupAt, Item_at, TreeAt}
+use Rattle.parser.specs.Promises.{Made, Moves, Spot, here, Goes, Read}
 use Rattle.parser.proofs.Going.{goes_made}
-use Rattle.parser.proofs.Holding.{Keeps, moves_keep, made_keeps, keeps_trans, made_node, named_stays, one_stays, two_stays, exp_stays, name_stays}
-use Rattle.parser.proofs.Rows.{Stays, row_stays}
+use Rattle.parser.proofs.Holding.{Keeps, moves_keep, made_keeps, keeps_trans, made_node, named_stays, one_stays, two_stays, exp_stays, name_stays, Stays, row_stays}
 
 module _ (s q : Parser) (m : Keeps s q) where
   pub variable_stays : (x : Variable) (i : ℕ) → i < s.made → VariableAt (view s) x i → VariableAt (view q) x i
@@ -68,6 +67,21 @@ module _ (s q : Parser) (m : Keeps s q) where
       (h.0, one_stays s q m i (Switch h.0) (λ p. RowAt NameAt (view s) xs p) (λ p. RowAt NameAt (view q) xs p) lt (λ p k. row_stays identifier NameAt name_stays s q m xs p k) h.1, named_stays s q m h.0 x h.2)
   item_stays (action t) i lt h = statement_stays t i lt h
 
+-- The tree of any part stays, and so do rows of it.
+pub tree_stays : (p : Part) → Stays (TreeAt p)
+tree_stays (ranked r) = exp_stays
+tree_stays factor = exp_stays
+tree_stays variable = variable_stays
+tree_stays identifier = name_stays
+tree_stays bound = λ s q m b i lt h. h
+tree_stays group = group_stays
+tree_stays element = element_stays
+tree_stays statement = statement_stays
+tree_stays item = item_stays
+
+pub rows_stay : (p : Part) → Stays {A = Row (Tree p)} (RowAt (TreeAt p))
+rows_stay p = row_stays p (TreeAt p) (tree_stays p)
+
 -- The statements of a block, in a row, stand where the block does.
 pub block_at : (v : View) (ts : Row Statement) (i : ℕ) → RowAt StatementAt v ts i → StatementAt v (block ts) i
 block_at v (one t) i h = h
@@ -82,9 +96,9 @@ stands At stays n m s u q h k t i lt x = record {
 }
 
 -- A part ends with a node that a word has paid for.
-pub made_read : {p : Phrase} {L : ℕ} {r u : Parser} {b : Spot p} {t : Value p} (At : View → Value p → ℕ → Type 0) (n : Node) (m : ℕ) (q : Parser) → Ready r → Goes L r u b (here (done t))
+pub made_read : {p : Phrase} {L : ℕ} {r u : Parser} {b : Spot p} {t : Value p} (At : View → Value p → ℕ → Type 0) (n : Node) (m : ℕ) (q : Parser) → Goes L r u b (here (done t))
     → u.made + r.at < r.made + u.at → Made n m u q → (node (view q) m ≡ n → At (view q) t m) → record { moves : Moves r q; reads : Read At L r q b m }
-made_read {r = r} {u = u} {t = t} At n m q ready g strict made held =
-    let paid : u.made < u.at = omega (arith, ready.thrift) in
+made_read {r = r} {u = u} {t = t} At n m q g strict made held =
+    let paid : u.made < u.at = omega (arith, r.thrift) in
     let g' = goes_made n m q g paid strict made in
-    record { moves = g'.moves; reads = record { tree = t; below = omega (arith, made.place, made.made); held = held (made_node n m u q g.moves.ready paid made); goes = g' } }
+    record { moves = g'.moves; reads = record { tree = t; below = omega (arith, made.place, made.made); held = held (made_node n m u q paid made); goes = g' } }

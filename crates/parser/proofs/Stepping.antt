@@ -1,11 +1,13 @@
 -- Ways through the parser's code by the script in hand: the word that has to come, one of two, a level more.
-use Rattle.std.proofs.Common.{◌≡◌, ℕ, suc, ◌+◌, true, false, List, [], ◌∷◌, length, Some, None, sym, refl, ap, ◌∙◌, arith}
+use Rattle.std.proofs.Common.{◌≡◌, ℕ, suc, ◌+◌, ◌<◌, true, false, cond, leb, List, [], ◌∷◌, length, Some, None, sym, refl, ap, ◌∙◌, arith}
+use borrow.Author.Tests.{lt-leb}
 use Rattle.words.specs.declared.token.Mark.{Mark}
+use Rattle.grammar.specs.declared.refusal.SentenceRefusal.TheVariants.{Unexpected, TooDeep}
 use Rattle.words.specs.Token.{Word}
 use Rattle.grammar.specs.Classes.{heads, Class, Content, the_mark, found, opens, levels_after}
-use Rattle.grammar.specs.Grammar.{Phrase, Value}
-use Rattle.grammar.specs.Parser.{Goal, Script, done, word, either, part, goto, Around, at, met, meets, after, moved, if_found, refuses, run, onward, start, opened, then_ended, ended, ended_around, early_or, waiting}
-use Rattle.grammar.proofs.Found.{none_some, token_of}
+use Rattle.grammar.specs.Grammar.{Part, Phrase, a, Value}
+use Rattle.grammar.specs.Parser.{Goal, Script, begin, done, word, either, part, goto, Around, State, levels, refused, at, met, meets, after, moved, if_found, refuses, run, onward, start, opened, then_ended, ended, ended_around, early_or, waiting}
+use Rattle.grammar.proofs.Found.{none_some, token_of, found_to_is}
 use Rattle.grammar.proofs.Steps.{Fresh, part_waits, handed_on}
 use Rattle.parser.specs.declared.refusal.Refusal.{Refusal}
 use Rattle.parser.specs.declared.table.Parser.{Parser}
@@ -13,8 +15,26 @@ use Rattle.parser.specs.Records.{ahead}
 use Rattle.parser.specs.Promises.{place_of, Moves, Spot, here, deeper, Goes, Fails}
 use Rattle.parser.specs.Expecting.{Expected, Missed, Opened, IsTooDeep, Unopened, missing, too_deep}
 use Rattle.parser.proofs.Moving.{moves_trans}
-use Rattle.parser.proofs.Going.{goes_word, goes_deeper, fails_here}
-use Rattle.parser.proofs.Factors.{word_refused, deep_refused}
+use Rattle.parser.proofs.Going.{goes_start, goes_word, goes_deeper, fails_here}
+
+module _ (limit end : ℕ) where
+  -- The next word is not the one that has to come.
+  pub word_refused : {p : Phrase} (c : Class) (y : Content c → ℕ → Script p) (ws : List Word) (d : ℕ) (k : Around p) → heads c ws ≡ None
+      → run limit end ws (at d (word c y) k) ≡ refused Unexpected (place_of end ws)
+  word_refused c y [] d k e = refl
+  word_refused c y (w ∷ ws) d k e =
+      ap (λ o. onward limit w.place (opens w.token) (λ q. run limit end ws q) (met d (levels_after w.token d) k (λ v. after k v w.token w.place) (if_found (λ x. y x w.place) refuses o))) e
+
+  -- A word opens a level, and none is left.
+  pub deep_refused : (c : Class) (x : Content c) (ws : List Word) (s : State) → heads c ws ≡ Some x → opens (token_of c x) ≡ true
+      → ((b : ℕ) → (q : State) × (moved s (token_of c x) b ≡ Some q) × (limit < levels q)) → run limit end ws s ≡ refused TooDeep (place_of end ws)
+  deep_refused c x [] s e o f = none_some e
+  deep_refused c x (w ∷ ws) s e o f =
+      let t = (found_to_is c w.token x e).0 in
+      let q = f w.place in
+      ap (λ y. onward limit w.place (opens w.token) (λ r. run limit end ws r) y) (ap (λ u. moved s u w.place) t ∙ q.1)
+      ∙ (ap (λ b. cond b (cond (leb (levels q.0) limit) (run limit end ws q.0) (refused TooDeep w.place)) (run limit end ws q.0)) (ap opens t ∙ o)
+      ∙ ap (λ b. cond b (run limit end ws q.0) (refused TooDeep w.place)) (lt-leb (levels q.0) limit q.2))
 
 -- Where a script's next word has the class, the word is taken; where it has not, the other script goes on.
 module _ (limit end : ℕ) {p : Phrase} (c : Class) (y : Content c → ℕ → Script p) (n : Script p) (d : ℕ) (k : Around p) where
@@ -52,6 +72,9 @@ module _ {p : Phrase} {L : ℕ} {r : Parser} {a : Spot p} {s : Parser} where
 
   pub goes_else : {c : Class} {y : Content c → ℕ → Script p} {n : Script p} → heads c (ahead s) ≡ None → opened n ≡ n → Goes L r s a (here (either c y n)) → Goes L r s a (here n)
   goes_else {c} {y} {n} e f g = record { moves = g.moves; leads = λ limit d k h. g.leads limit d k h ∙ else_run limit (length r.text.now) c y n d k (ahead s) e f }
+
+  pub goes_else_deeper : {c : Class} {y : Content c → ℕ → Script p} {n : Script p} → heads c (ahead s) ≡ None → opened n ≡ n → Goes L r s a (deeper (either c y n)) → Goes L r s a (deeper n)
+  goes_else_deeper {c} {y} {n} e f g = record { moves = g.moves; leads = λ limit d k h. g.leads limit d k h ∙ else_run limit (length r.text.now) c y n (suc d) k (ahead s) e f }
 
   -- The word that has to come is taken: on the level where it stands, or closing the one deeper.
   module _ {c : Class} {y : Content c → ℕ → Script p} {x : Content c} {q : Parser} (h : Expected c x s q) (quiet : opens (token_of c x) ≡ false) (is : found c (token_of c x) ≡ Some x) where
@@ -143,3 +166,16 @@ module _ {p : Phrase} {L : ℕ} {r : Parser} {a : Spot p} {s : Parser} (q : Pars
   pub stops_unopened : {b : Mark} {y : Content (the_mark b) → ℕ → Script p} → found (the_mark b) (token_of (the_mark b) tt) ≡ Some tt → opens (token_of (the_mark b) tt) ≡ true
       → Goes L r s a (here (word (the_mark b) y)) → Unopened b L s e → record { moves : Moves r q; reads : Fails L r a e }
   stops_unopened f o g h = record { moves = moves_trans r s q g.moves m; reads = fails_unopened e f o h g }
+
+-- A part's first word opens a level, or none is left.
+module _ {p : Part} (c : Class) (x : Content c) (f : ℕ → Script (a p)) {L : ℕ} {r : Parser} (e : heads c (ahead r) ≡ Some x)
+    (takes : (d b : ℕ) (k : Around (a p)) → moved (at d (goto (begin (a p))) k) (token_of c x) b ≡ Some (at (suc d) (f b) k)) where
+  pub part_opened : {s : Parser} {l : ℕ} → Opened L r s l → Goes L r s (here (goto (begin (a p)))) (deeper (f (place_of (length r.text.now) (ahead r))))
+  part_opened {s} o = goes_deeper c x s f goes_start e o.took (omega (arith, o.level)) takes
+
+  pub part_deep : (q : Parser) (u : Refusal) → opens (token_of c x) ≡ true → Moves r q → IsTooDeep L r u → record { moves : Moves r q; reads : Fails L r (here (goto (begin (a p)))) u }
+  part_deep q u up m h = record {
+    moves = m;
+    reads = fails_here {r = r} {a = here (goto (begin (a p)))} {b = here (goto (begin (a p)))} u goes_start (λ limit d k i. rw (h.refused.reason, h.refused.place)
+        (deep_refused limit (length r.text.now) c x (ahead r) (at d (goto (begin (a p))) k) e up (λ b. (at (suc d) (f b) k, takes d b k, omega (arith, h.none)))));
+  }

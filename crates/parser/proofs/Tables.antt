@@ -56,15 +56,3 @@ length_all text (suc n) (r ∷ l) = omega (arith, length_all text n l)
 
 pub word_left : (c : Class) (x : Content c) (p : Parser) → heads c (ahead p) ≡ Some x → p.at < p.count
 word_left c x p e = omega (arith, head_within c x (all p) p.at e, length_all p.text.now p.count p.table.now)
-
--- So there is where a taker found one.
-pub found_left : (c : Class) (p : Parser) (o : Option (Content c)) → o ≡ heads c (ahead p) → is_some o ≡ true → p.at < p.count
-found_left c p None e h = let z : ◌≡◌ {A = ℕ} 0 1 = ap {B = ℕ} (λ b. cond b 1 0) h in absurd (omega arith)
-found_left c p (Some x) e h = word_left c x p (sym e)
-
-pub name_left : (p : Parser) (o : Option ℕ) → o ≡ instead p.at (heads a_name (ahead p)) → is_some o ≡ true → p.at < p.count
-name_left p o e h = by (heads a_name (ahead p)) refl (ap is_some (sym e) ∙ h)
-  where
-    by : (x : Option (Content a_name)) → heads a_name (ahead p) ≡ x → is_some (instead p.at x) ≡ true → p.at < p.count
-    by None i j = let z : ◌≡◌ {A = ℕ} 0 1 = ap {B = ℕ} (λ b. cond b 1 0) j in absurd (omega arith)
-    by (Some x) i j = word_left a_name x p i

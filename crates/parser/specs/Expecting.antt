@@ -1,9 +1,10 @@
 -- What the methods promise that take a word which has to come, or open a level.
-use Rattle.std.specs.Prelude.{◌≡◌, ℕ, suc, true, length, Some, None, Ok, Err, Result}
+use Rattle.std.specs.Prelude.{◌≡◌, ℕ, suc, true, false, List, length, Some, None, Option, Ok, Err, Result}
 use Rattle.words.specs.declared.token.Mark.{Mark}
+use Rattle.words.specs.Token.{Token, Word}
 use Rattle.grammar.specs.declared.refusal.SentenceRefusal.{SentenceRefusal}
 use Rattle.grammar.specs.declared.refusal.SentenceRefusal.TheVariants.{Unexpected, TooDeep}
-use Rattle.grammar.specs.Classes.{heads, Class, Content, the_mark, a_name, a_number}
+use Rattle.grammar.specs.Classes.{heads, found, Class, Content, the_mark, a_name}
 use Rattle.parser.specs.declared.refusal.Refusal.{Refusal}
 use Rattle.parser.specs.declared.table.Parser.{Parser}
 use Rattle.parser.specs.Records.{ahead}
@@ -24,9 +25,30 @@ pub record Missed (c : Class) (r : Parser) (e : Refusal) : Type 0 where
   pub is : heads c (ahead r) ≡ None
   pub refused : RefusedAt Unexpected r e
 
-abbrev pub Expects : (c : Class) → Content c → Parser → Parser → Result (Unit {0}) Refusal → Type 0
-Expects c x r s (Ok _) = Expected c x r s
-Expects c x r s (Err e) = Missed c r e
+-- What the code learns from a word is what the class has of it.
+abbrev pub Finds : (c : Class) {A : Type 0} → (A → Content c) → Token → Option A → Type 0
+Finds c f t (Some x) = found c t ≡ Some (f x)
+Finds c f t None = found c t ≡ None
+
+-- The same of the next word.
+abbrev pub Comes : (c : Class) {A : Type 0} → (A → Content c) → List Word → Option A → Type 0
+Comes c f ws (Some x) = heads c ws ≡ Some (f x)
+Comes c f ws None = heads c ws ≡ None
+
+-- The next word is not of the class, and was left.
+pub record NotTaken (c : Class) (r s : Parser) : Type 0 where
+  pub is : heads c (ahead r) ≡ None
+  pub took : Took false r s
+
+-- The next word was taken if it is of the class.
+abbrev pub Takes : (c : Class) {A : Type 0} → (A → Content c) → Parser → Parser → Option A → Type 0
+Takes c f r s (Some x) = Expected c (f x) r s
+Takes c f r s None = NotTaken c r s
+
+-- The next word was taken, or it is not of the class and that is refused.
+abbrev pub Expects : (c : Class) {A : Type 0} → (A → Content c) → Parser → Parser → Result A Refusal → Type 0
+Expects c f r s (Ok x) = Expected c (f x) r s
+Expects c f r s (Err e) = Missed c r e
 
 -- The next word is a name, and was taken.
 pub record NameExpected (r s : Parser) (w : ℕ) : Type 0 where
@@ -36,10 +58,6 @@ pub record NameExpected (r s : Parser) (w : ℕ) : Type 0 where
 abbrev pub ExpectsName : Parser → Parser → Result ℕ Refusal → Type 0
 ExpectsName r s (Ok w) = NameExpected r s w
 ExpectsName r s (Err e) = Missed a_name r e
-
-abbrev pub ExpectsNumber : Parser → Parser → Result ℕ Refusal → Type 0
-ExpectsNumber r s (Ok n) = Expected a_number n r s
-ExpectsNumber r s (Err e) = Missed a_number r e
 
 -- The next word was taken, and behind it there are so many levels left.
 pub record Opened (levels : ℕ) (r s : Parser) (inner : ℕ) : Type 0 where

@@ -9,7 +9,7 @@ use Rattle.grammar.specs.Parser.{done, goto, begin, Around, waiting, at, run}
 use Rattle.parser.specs.declared.node.Node.TheVariants.{Empty}
 use Rattle.parser.specs.declared.table.Parser.{Parser}
 use Rattle.parser.specs.Records.{nodes, ahead, View, view, Named, StatementAt}
-use Rattle.parser.specs.Promises.{Ready, SameText, Moves}
+use Rattle.parser.specs.Promises.{SameText, Moves}
 
 -- A name and a colon come next.
 abbrev pub is_label : List Word → Bool
@@ -44,7 +44,6 @@ pub record LabelsPassed (r s : Parser) (n : ℕ) : Type 0 where
 -- n nodes were made, the last of them i: the labels from word `first` on around the statement at node j.
 pub record LabelsMade (first n j : ℕ) (r s : Parser) (i : ℕ) : Type 0 where
   pub same : SameText r s
-  pub ready : Ready s
   pub at : s.at ≡ r.at
   pub made : s.made ≡ r.made + n
   pub kept : (l : ℕ) → l < r.made → slice_index_or (nodes s.table.now) l Empty ≡ slice_index_or (nodes r.table.now) l Empty

@@ -11,12 +11,6 @@ use Rattle.parser.specs.declared.refusal.Refusal.{Refusal}
 use Rattle.parser.specs.declared.table.Parser.{Parser}
 use Rattle.parser.specs.Records.{nodes, all, ahead, View, view}
 
--- A parser that may go on: its words stand in the table, and it has made no more nodes than it took words.
-pub record Ready (p : Parser) : Type 0 where
-  pub within : p.at ≤ p.count
-  pub room : p.count ≤ length p.table.now
-  pub thrift : p.made ≤ p.at
-
 -- i where there is something.
 abbrev pub instead : {A : Type 0} → ℕ → Option A → Option ℕ
 instead i None = None
@@ -60,7 +54,6 @@ pub record Made (n : Node) (i : ℕ) (r s : Parser) : Type 0 where
 -- From r to s: words were taken, and at most as many nodes made; the nodes made before stand.
 pub record Moves (r s : Parser) : Type 0 where
   pub same : SameText r s
-  pub ready : Ready s
   pub on : r.at ≤ s.at
   pub more : r.made ≤ s.made
   pub thrift : s.made + r.at ≤ r.made + s.at

@@ -3,6 +3,7 @@ use Rattle.std.specs.Prelude.{◌≡◌, ℕ, ◌<◌, List, [], ◌∷◌, map,
 use Rattle.words.specs.declared.word.Word.{Word as WordRecord}
 use Rattle.words.specs.Token.{Word, name}
 use Rattle.words.specs.Records.{word_in}
+use Rattle.grammar.specs.Grammar.{Part, ranked, factor, variable, identifier, bound, group, element, statement, item, Tree}
 use Rattle.grammar.specs.Tree.{Row, one, more, Name, Exp, literal, simple, subscripted, prefixed, joined, bracketed, compared, Variable, whole, indexed, Element, single, progression, Statement, labelled, conditional, repeated, assigned, go, switched, input, printed, stop, sequence, Bound, Group, Item, comment, integer, boolean, array, switch, action}
 use Rattle.parser.specs.declared.node.Node.{Node}
 use Rattle.parser.specs.declared.node.Bound.{Bound as BoundRecord}
@@ -100,3 +101,15 @@ Item_at v (action s) i = StatementAt v s i
 
 abbrev pub ProgramAt : View → Row Item → ℕ → Type 0
 ProgramAt v t i = RowAt Item_at v t i
+
+-- The tree of a part stands at node i. No node holds a bound.
+abbrev pub TreeAt : (p : Part) → View → Tree p → ℕ → Type 0
+TreeAt (ranked r) = ExpAt
+TreeAt factor = ExpAt
+TreeAt variable = VariableAt
+TreeAt identifier = NameAt
+TreeAt bound = λ v b i. ⊥
+TreeAt group = GroupAt
+TreeAt element = ElementAt
+TreeAt statement = StatementAt
+TreeAt item = Item_at

@@ -5,9 +5,10 @@ ghost use Rattle.grammar.specs.Classes.{heads, the_mark, the_keyword, when};
 ghost use Rattle.grammar.specs.Grammar.{a, row, statement};
 ghost use Rattle.grammar.specs.Parser.{goto, begin};
 ghost use Rattle.parser.specs.Records.{all, ahead, RowAt, StatementAt};
-ghost use Rattle.parser.specs.Promises.{Ready, Moves, Reads, here, in_text, next};
+ghost use Rattle.parser.specs.Promises.{Moves, Reads, here, in_text, next};
 ghost use Rattle.parser.specs.Labels.{is_label, LabelsPassed, LabelsMade};
 
+use crate::element::ElementPart;
 use crate::node::Node;
 use crate::refusal::Refusal;
 use crate::table::Parser;
@@ -15,9 +16,9 @@ use grammar::refusal::SentenceRefusal;
 use words::token::{Keyword, Mark};
 
 impl Parser<'_> {
-    // Passes over the labels that come next, and says how many there are.
+    // Passes over the labels that come next, and says how many there are. It counts by hand, since each step moves the
+    // parser and there is no iterator to count.
     fn skip_labels(&mut self) -> usize
-        requires { Ready self.old }
         ensures passed { LabelsPassed self.old self.new result }
         ensures plain { is_label (ahead self.new) ≡ false }
     {
@@ -32,17 +33,14 @@ impl Parser<'_> {
 
     // Puts the labels around a statement, `labels` of them from word `first` on, the last one innermost.
     fn label(&mut self, first: usize, labels: usize, statement: usize) -> usize
-        requires ready { Ready self.old }
         requires behind { first + 2 * labels ≤ self.old.at }
         requires paid { self.old.made + labels ≤ self.old.at }
         requires made { statement < self.old.made }
         ensures { LabelsMade first labels statement self.old self.new result }
     {
         let mut all = statement;
-        let mut left = labels;
-        while left > 0 {
-            left -= 1;
-            all = self.make(Node::Labelled(first + 2 * left, all));
+        for label in (0..labels).rev() {
+            all = self.make(Node::Labelled(first + 2 * label, all));
         }
         all
     }
@@ -50,7 +48,6 @@ impl Parser<'_> {
     // A statement, with its labels.
     #[cycle(block_conditional_repetition_statement_statements_unlabelled)]
     pub(crate) fn statement(&mut self, levels: usize) -> Result<usize, Refusal>
-        requires { Ready self.old }
         ensures moves { Moves self.old self.new }
         ensures reads { Reads StatementAt levels self.old self.new (here (goto (begin (a statement)))) result }
     {
@@ -63,30 +60,29 @@ impl Parser<'_> {
     // A statement behind its labels, by its first word.
     #[cycle(block_conditional_repetition_statement_statements_unlabelled)]
     fn unlabelled(&mut self, levels: usize) -> Result<usize, Refusal>
-        requires ready { Ready self.old }
         requires plain { is_label (ahead self.old) ≡ false }
         ensures moves { Moves self.old self.new }
         ensures reads { Reads StatementAt levels self.old self.new (here (goto (begin (a statement)))) result }
     {
-        if self.next_is_keyword(Keyword::If) {
+        if self.next_is(Keyword::If) {
             return self.conditional(levels);
         }
-        if self.next_is_keyword(Keyword::For) {
+        if self.next_is(Keyword::For) {
             return self.repetition(levels);
         }
-        if self.next_is_keyword(Keyword::Begin) {
+        if self.next_is(Keyword::Begin) {
             return self.block(levels);
         }
-        if self.next_is_keyword(Keyword::Go) {
+        if self.next_is(Keyword::Go) {
             return self.jump(levels);
         }
-        if self.next_is_keyword(Keyword::In) {
+        if self.next_is(Keyword::In) {
             return self.input(levels);
         }
-        if self.next_is_keyword(Keyword::Print) {
+        if self.next_is(Keyword::Print) {
             return self.print(levels);
         }
-        if self.next_is_keyword(Keyword::Stop) {
+        if self.next_is(Keyword::Stop) {
             return Ok(self.stop());
         }
         match self.next_name() {
@@ -98,7 +94,6 @@ impl Parser<'_> {
     // `if`, an expression, `;` and a statement.
     #[cycle(block_conditional_repetition_statement_statements_unlabelled)]
     fn conditional(&mut self, levels: usize) -> Result<usize, Refusal>
-        requires ready { Ready self.old }
         requires begins { heads (the_keyword Keyword.If) (ahead self.old) ≡ Some tt }
         ensures moves { Moves self.old self.new }
         ensures reads { Reads StatementAt levels self.old self.new (here (goto (begin (a statement)))) result }
@@ -106,7 +101,7 @@ impl Parser<'_> {
         let place = self.place();
         let inner = self.open(levels)?;
         let condition = self.expression(1, inner)?;
-        self.expect_mark(Mark::Semicolon)?;
+        self.expect(Mark::Semicolon)?;
         let body = self.statement(inner)?;
         Ok(self.make(Node::Conditional(place, condition, body)))
     }
@@ -114,7 +109,6 @@ impl Parser<'_> {
     // `for`, a name, `:=`, elements, `;` and a statement.
     #[cycle(block_conditional_repetition_statement_statements_unlabelled)]
     fn repetition(&mut self, levels: usize) -> Result<usize, Refusal>
-        requires ready { Ready self.old }
         requires begins { heads (the_keyword Keyword.For) (ahead self.old) ≡ Some tt }
         ensures moves { Moves self.old self.new }
         ensures reads { Reads StatementAt levels self.old self.new (here (goto (begin (a statement)))) result }
@@ -122,9 +116,9 @@ impl Parser<'_> {
         let place = self.place();
         let inner = self.open(levels)?;
         let name = self.expect_name()?;
-        self.expect_mark(Mark::Becomes)?;
-        let elements = self.elements(inner)?;
-        self.expect_mark(Mark::Semicolon)?;
+        self.expect(Mark::Becomes)?;
+        let elements = self.row::<ElementPart>(inner)?;
+        self.expect(Mark::Semicolon)?;
         let body = self.statement(inner)?;
         Ok(self.make(Node::Repeated(place, name, elements, body)))
     }
@@ -132,26 +126,24 @@ impl Parser<'_> {
     // `begin`, statements and `end`.
     #[cycle(block_conditional_repetition_statement_statements_unlabelled)]
     fn block(&mut self, levels: usize) -> Result<usize, Refusal>
-        requires ready { Ready self.old }
         requires begins { heads (the_keyword Keyword.Begin) (ahead self.old) ≡ Some tt }
         ensures moves { Moves self.old self.new }
         ensures reads { Reads StatementAt levels self.old self.new (here (goto (begin (a statement)))) result }
     {
         let inner = self.open(levels)?;
         let all = self.statements(inner)?;
-        self.expect_keyword(Keyword::End)?;
+        self.expect(Keyword::End)?;
         Ok(all)
     }
 
     // Statements, parted by semicolons.
     #[cycle(block_conditional_repetition_statement_statements_unlabelled)]
     fn statements(&mut self, levels: usize) -> Result<usize, Refusal>
-        requires { Ready self.old }
         ensures moves { Moves self.old self.new }
         ensures reads { Reads (RowAt StatementAt) levels self.old self.new (here (goto (begin (row statement)))) result }
     {
         let mut all = self.statement(levels)?;
-        while self.take_mark(Mark::Semicolon) {
+        while let Some(()) = self.take(Mark::Semicolon) {
             let next = self.statement(levels)?;
             all = self.make(Node::More(all, next));
         }

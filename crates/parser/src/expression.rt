@@ -6,24 +6,23 @@ ghost use Rattle.grammar.specs.Grammar.{a, ranked, factor, variable};
 ghost use Rattle.grammar.specs.Parser.{goto, begin, operators};
 ghost use Rattle.grammar.specs.Tree.{Exp};
 ghost use Rattle.parser.specs.Records.{ahead, view, ExpAt, VariableAt};
-ghost use Rattle.parser.specs.Promises.{Ready, Moves, Reads, here};
+ghost use Rattle.parser.specs.Promises.{Moves, Reads, here};
 
+use crate::class::{Numbers, Operators, Prefixes, Relations};
 use crate::node::Node;
 use crate::refusal::Refusal;
 use crate::table::Parser;
-use grammar::refusal::SentenceRefusal;
 use words::token::Mark;
 
 impl Parser<'_> {
     // An expression of rank `rank`.
     #[cycle(bracket_expression_factor_operated_variable)]
     pub(crate) fn expression(&mut self, rank: usize, levels: usize) -> Result<usize, Refusal>
-        requires { Ready self.old }
         ensures moves { Moves self.old self.new }
         ensures reads { Reads ExpAt levels self.old self.new (here (goto (begin (a (ranked rank))))) result }
     {
         let place = self.place();
-        if let Some(o) = self.take_prefix(rank) {
+        if let Some(o) = self.take(Prefixes { rank }) {
             let operand = self.expression(o.operand_rank(), levels)?;
             let left = self.make(Node::Prefixed(o, place, operand));
             return self.operated(rank, o.rank(), left, levels);
@@ -41,14 +40,16 @@ impl Parser<'_> {
         first: usize,
         levels: usize,
     ) -> Result<usize, Refusal>
-        requires ready { Ready self.old }
         requires made { first < self.old.made }
         ensures moves { Moves self.old self.new }
         ensures reads { (x : Exp) → ExpAt (view self.old) x first → Reads ExpAt levels self.old self.new (here (goto (operators rank bound x))) result }
     {
         let mut left = first;
         let mut up_to = bound;
-        while let Some(o) = self.take_operator(rank, up_to) {
+        while let Some(o) = self.take(Operators {
+            rank,
+            bound: up_to,
+        }) {
             let right = self.expression(o.rank() + 1, levels)?;
             left = self.make(Node::Joined(o, left, right));
             up_to = o.rank();
@@ -59,15 +60,14 @@ impl Parser<'_> {
     // A number, a variable, or an expression or a comparison in brackets.
     #[cycle(bracket_expression_factor_operated_variable)]
     fn factor(&mut self, levels: usize) -> Result<usize, Refusal>
-        requires { Ready self.old }
         ensures moves { Moves self.old self.new }
         ensures reads { Reads ExpAt levels self.old self.new (here (goto (begin (a factor)))) result }
     {
-        if self.next_is_mark(Mark::OpenRound) {
+        if self.next_is(Mark::OpenRound) {
             return self.bracket(levels);
         }
         let place = self.place();
-        if let Some(n) = self.take_number() {
+        if let Some(n) = self.take(Numbers) {
             return Ok(self.make(Node::Literal(n, place)));
         }
         self.variable(levels)
@@ -75,51 +75,35 @@ impl Parser<'_> {
 
     #[cycle(bracket_expression_factor_operated_variable)]
     fn bracket(&mut self, levels: usize) -> Result<usize, Refusal>
-        requires ready { Ready self.old }
         requires opens { heads (the_mark Mark.OpenRound) (ahead self.old) ≡ Some tt }
         ensures moves { Moves self.old self.new }
         ensures reads { Reads ExpAt levels self.old self.new (here (goto (begin (a factor)))) result }
     {
-        if levels == 0 {
-            return Err(self.refuse(SentenceRefusal::TooDeep));
-        }
         let place = self.place();
-        self.skip();
-        let left = self.expression(1, levels - 1)?;
-        if let Some(r) = self.take_relation() {
-            let right = self.expression(1, levels - 1)?;
-            if !self.take_mark(Mark::CloseRound) {
-                return Err(self.refuse(SentenceRefusal::Unexpected));
-            }
+        let inner = self.open(levels)?;
+        let left = self.expression(1, inner)?;
+        if let Some(r) = self.take(Relations) {
+            let right = self.expression(1, inner)?;
+            self.expect(Mark::CloseRound)?;
             return Ok(self.make(Node::Compared(r, place, left, right)));
         }
-        if !self.take_mark(Mark::CloseRound) {
-            return Err(self.refuse(SentenceRefusal::Unexpected));
-        }
+        self.expect(Mark::CloseRound)?;
         Ok(self.make(Node::Bracketed(place, left)))
     }
 
     // A name, or an array's element.
     #[cycle(bracket_expression_factor_operated_variable)]
     pub(crate) fn variable(&mut self, levels: usize) -> Result<usize, Refusal>
-        requires { Ready self.old }
         ensures moves { Moves self.old self.new }
         ensures reads { Reads VariableAt levels self.old self.new (here (goto (begin (a variable)))) result }
     {
-        let Some(name) = self.take_name() else {
-            return Err(self.refuse(SentenceRefusal::Unexpected));
-        };
-        if !self.next_is_mark(Mark::OpenSquare) {
+        let name = self.expect_name()?;
+        if !self.next_is(Mark::OpenSquare) {
             return Ok(self.make(Node::Simple(name)));
         }
-        if levels == 0 {
-            return Err(self.refuse(SentenceRefusal::TooDeep));
-        }
-        self.skip();
-        let subscript = self.expression(1, levels - 1)?;
-        if !self.take_mark(Mark::CloseSquare) {
-            return Err(self.refuse(SentenceRefusal::Unexpected));
-        }
+        let inner = self.open(levels)?;
+        let subscript = self.expression(1, inner)?;
+        self.expect(Mark::CloseSquare)?;
         Ok(self.make(Node::Subscripted(name, subscript)))
     }
 }

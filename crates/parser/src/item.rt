@@ -2,38 +2,54 @@
 
 ghost use Rattle.std.specs.Prelude.{◌≡◌, ℕ, Some};
 ghost use Rattle.grammar.specs.Classes.{heads, the_keyword};
-ghost use Rattle.grammar.specs.Grammar.{a, row, item};
+ghost use Rattle.grammar.specs.Grammar.{a, item};
 ghost use Rattle.grammar.specs.Parser.{goto, begin};
-ghost use Rattle.parser.specs.Records.{ahead, RowAt, Item_at};
-ghost use Rattle.parser.specs.Promises.{Ready, Moves, Read, Reads, here};
+ghost use Rattle.parser.specs.Records.{ahead, Item_at};
+ghost use Rattle.parser.specs.Promises.{Moves, Read, Reads, here};
 ghost use Rattle.parser.specs.Whole.{ReadsProgram};
 
 use crate::node::Node;
 use crate::refusal::Refusal;
+use crate::row::RowPart;
+use crate::declaration::GroupPart;
 use crate::table::Parser;
 use grammar::refusal::SentenceRefusal;
 use words::token::{Keyword, Mark};
 
+// An item in a program.
+pub(crate) struct ItemPart;
+
+impl RowPart for ItemPart {
+    ghost part = { item };
+
+    fn separator() -> Mark {
+        Mark::Semicolon
+    }
+
+    fn read(parser: &mut Parser<'_>, levels: usize) -> Result<usize, Refusal> {
+        parser.item(levels)
+    }
+}
+
 impl Parser<'_> {
     // A comment, a declaration or a statement, by its first word.
     fn item(&mut self, levels: usize) -> Result<usize, Refusal>
-        requires { Ready self.old }
         ensures moves { Moves self.old self.new }
         ensures reads { Reads Item_at levels self.old self.new (here (goto (begin (a item)))) result }
     {
-        if self.next_is_keyword(Keyword::Comment) {
+        if self.next_is(Keyword::Comment) {
             return Ok(self.comment());
         }
-        if self.next_is_keyword(Keyword::Integer) {
+        if self.next_is(Keyword::Integer) {
             return self.integers(levels);
         }
-        if self.next_is_keyword(Keyword::Boolean) {
+        if self.next_is(Keyword::Boolean) {
             return self.booleans(levels);
         }
-        if self.next_is_keyword(Keyword::Array) {
+        if self.next_is(Keyword::Array) {
             return self.arrays(levels);
         }
-        if self.next_is_keyword(Keyword::Switch) {
+        if self.next_is(Keyword::Switch) {
             return self.switch(levels);
         }
         self.statement(levels)
@@ -41,7 +57,6 @@ impl Parser<'_> {
 
     // `comment`, with what it skips.
     fn comment(&mut self) -> usize
-        requires ready { Ready self.old }
         requires begins { heads (the_keyword Keyword.Comment) (ahead self.old) ≡ Some tt }
         ensures moves { Moves self.old self.new }
         ensures reads { (levels : ℕ) → Read Item_at levels self.old self.new (here (goto (begin (a item)))) result }
@@ -52,7 +67,6 @@ impl Parser<'_> {
 
     // `integer` and names in brackets.
     fn integers(&mut self, levels: usize) -> Result<usize, Refusal>
-        requires ready { Ready self.old }
         requires begins { heads (the_keyword Keyword.Integer) (ahead self.old) ≡ Some tt }
         ensures moves { Moves self.old self.new }
         ensures reads { Reads Item_at levels self.old self.new (here (goto (begin (a item)))) result }
@@ -62,9 +76,9 @@ impl Parser<'_> {
         Ok(self.make(Node::Integer(names)))
     }
 
-    // `boolean` and names in brackets.
+    // `boolean` and names in brackets. One function for this and `integers` would take a trait with a word, an item, a
+    // node and a law, and be longer than the two.
     fn booleans(&mut self, levels: usize) -> Result<usize, Refusal>
-        requires ready { Ready self.old }
         requires begins { heads (the_keyword Keyword.Boolean) (ahead self.old) ≡ Some tt }
         ensures moves { Moves self.old self.new }
         ensures reads { Reads Item_at levels self.old self.new (here (goto (begin (a item)))) result }
@@ -76,53 +90,36 @@ impl Parser<'_> {
 
     // `array` and groups in brackets.
     fn arrays(&mut self, levels: usize) -> Result<usize, Refusal>
-        requires ready { Ready self.old }
         requires begins { heads (the_keyword Keyword.Array) (ahead self.old) ≡ Some tt }
         ensures moves { Moves self.old self.new }
         ensures reads { Reads Item_at levels self.old self.new (here (goto (begin (a item)))) result }
     {
         self.skip();
         let inner = self.open_mark(Mark::OpenRound, levels)?;
-        let groups = self.groups(inner)?;
-        self.expect_mark(Mark::CloseRound)?;
+        let groups = self.row::<GroupPart>(inner)?;
+        self.expect(Mark::CloseRound)?;
         Ok(self.make(Node::Array(groups)))
     }
 
     // `switch`, a name, `:=` and labels in brackets.
     fn switch(&mut self, levels: usize) -> Result<usize, Refusal>
-        requires ready { Ready self.old }
         requires begins { heads (the_keyword Keyword.Switch) (ahead self.old) ≡ Some tt }
         ensures moves { Moves self.old self.new }
         ensures reads { Reads Item_at levels self.old self.new (here (goto (begin (a item)))) result }
     {
         self.skip();
         let name = self.expect_name()?;
-        self.expect_mark(Mark::Becomes)?;
+        self.expect(Mark::Becomes)?;
         let labels = self.bracketed_names(levels)?;
         Ok(self.make(Node::Switch(name, labels)))
     }
 
-    // Items, parted by semicolons.
-    fn items(&mut self, levels: usize) -> Result<usize, Refusal>
-        requires { Ready self.old }
-        ensures moves { Moves self.old self.new }
-        ensures reads { Reads (RowAt Item_at) levels self.old self.new (here (goto (begin (row item)))) result }
-    {
-        let mut all = self.item(levels)?;
-        while self.take_mark(Mark::Semicolon) {
-            let next = self.item(levels)?;
-            all = self.make(Node::More(all, next));
-        }
-        Ok(all)
-    }
-
     // A whole program: items, and then no word more.
     pub(crate) fn program(&mut self, levels: usize) -> Result<usize, Refusal>
-        requires { Ready self.old }
         ensures moves { Moves self.old self.new }
         ensures reads { ReadsProgram levels self.old self.new result }
     {
-        let root = self.items(levels)?;
+        let root = self.row::<ItemPart>(levels)?;
         if self.at < self.count {
             return Err(self.refuse(SentenceRefusal::Unexpected));
         }

@@ -1,5 +1,6 @@
 // The nodes of a syntax tree. A node has its parts by their numbers in the table, names by the numbers of their words,
-// and the places that messages tell; its parts stand before it.
+// and the places that messages tell; its parts stand before it. The nodes stand in the lent work table, and `Empty` where
+// none was made, since the library has no heap: so they are numbers and no boxes.
 
 use grammar::operator::{Operator, Prefix};
 use words::token::{Relation, Sign};

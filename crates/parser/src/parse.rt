@@ -44,11 +44,7 @@ pub fn parse(text: &[u8], table: &mut [Record]) -> Result<Sentence, ParseRefusal
             place: 0,
         }));
     }
-    match cut_words(text, table) {
-        Ok(words) => match parse_words(text, table, words) {
-            Ok(root) => Ok(Sentence { root, words }),
-            Err(refusal) => Err(ParseRefusal::Sentence(refusal)),
-        },
-        Err(refusal) => Err(ParseRefusal::Word(refusal)),
-    }
+    let words = cut_words(text, table)?;
+    let root = parse_words(text, table, words)?;
+    Ok(Sentence { root, words })
 }

@@ -2,6 +2,7 @@
 
 ghost use Rattle.std.specs.Prelude.{◌≡◌};
 ghost use Rattle.parser.specs.Refusal.{number, place};
+ghost use Rattle.parser.specs.declared.refusal.ParseRefusal.TheVariants.{Word, Sentence};
 
 use grammar::refusal::SentenceRefusal;
 
@@ -17,6 +18,22 @@ pub struct Refusal {
 pub enum ParseRefusal {
     Word(words::refusal::Refusal),
     Sentence(Refusal),
+}
+
+impl From<words::refusal::Refusal> for ParseRefusal {
+    ghost from_gives = { λ e r. r ≡ Word e };
+
+    fn from(word: words::refusal::Refusal) -> ParseRefusal {
+        ParseRefusal::Word(word)
+    }
+}
+
+impl From<Refusal> for ParseRefusal {
+    ghost from_gives = { λ e r. r ≡ Sentence e };
+
+    fn from(sentence: Refusal) -> ParseRefusal {
+        ParseRefusal::Sentence(sentence)
+    }
 }
 
 impl ParseRefusal {

@@ -6,10 +6,11 @@ ghost use Rattle.grammar.specs.Classes.{heads, the_keyword, a_name};
 ghost use Rattle.grammar.specs.Grammar.{Phrase, a, statement};
 ghost use Rattle.grammar.specs.Parser.{goto, begin, Script};
 ghost use Rattle.parser.specs.Records.{ahead, ExpAt, VariableAt, StatementAt};
-ghost use Rattle.parser.specs.Promises.{Ready, Moves, Read, Reads, Passes, here, instead};
+ghost use Rattle.parser.specs.Promises.{Moves, Read, Reads, Passes, here, instead};
 ghost use Rattle.parser.specs.Pieces.{subscript_script, assigning};
 ghost use Rattle.parser.specs.Labels.{is_label};
 
+use crate::element::ExpressionPart;
 use crate::node::Node;
 use crate::refusal::Refusal;
 use crate::table::Parser;
@@ -18,26 +19,24 @@ use words::token::{Keyword, Mark};
 impl Parser<'_> {
     // An expression in square brackets.
     fn subscript(&mut self, levels: usize) -> Result<usize, Refusal>
-        requires { Ready self.old }
         ensures moves { Moves self.old self.new }
         ensures reads { (p : Phrase) (f : Exp → Script p) → Passes ExpAt levels self.old self.new (here (subscript_script f)) (λ i. here (f i)) result }
     {
         let inner = self.open_mark(Mark::OpenSquare, levels)?;
         let subscript = self.expression(1, inner)?;
-        self.expect_mark(Mark::CloseSquare)?;
+        self.expect(Mark::CloseSquare)?;
         Ok(subscript)
     }
 
     // The variable that is assigned to, whose name is the next word.
     fn target(&mut self, name: usize, levels: usize) -> Result<usize, Refusal>
-        requires ready { Ready self.old }
         requires named { Some name ≡ instead self.old.at (heads a_name (ahead self.old)) }
         requires plain { is_label (ahead self.old) ≡ false }
         ensures moves { Moves self.old self.new }
         ensures reads { Passes VariableAt levels self.old self.new (here (goto (begin (a statement)))) (λ v. here (assigning v)) result }
     {
         self.skip();
-        if !self.next_is_mark(Mark::OpenSquare) {
+        if !self.next_is(Mark::OpenSquare) {
             return Ok(self.make(Node::Simple(name)));
         }
         let subscript = self.subscript(levels)?;
@@ -46,30 +45,28 @@ impl Parser<'_> {
 
     // A variable, `:=` and an expression.
     pub(crate) fn assignment(&mut self, name: usize, levels: usize) -> Result<usize, Refusal>
-        requires ready { Ready self.old }
         requires named { Some name ≡ instead self.old.at (heads a_name (ahead self.old)) }
         requires plain { is_label (ahead self.old) ≡ false }
         ensures moves { Moves self.old self.new }
         ensures reads { Reads StatementAt levels self.old self.new (here (goto (begin (a statement)))) result }
     {
         let target = self.target(name, levels)?;
-        self.expect_mark(Mark::Becomes)?;
+        self.expect(Mark::Becomes)?;
         let value = self.expression(1, levels)?;
         Ok(self.make(Node::Assigned(target, value)))
     }
 
     // `go to` and a label, or a switch and its subscript.
     pub(crate) fn jump(&mut self, levels: usize) -> Result<usize, Refusal>
-        requires ready { Ready self.old }
         requires begins { heads (the_keyword Keyword.Go) (ahead self.old) ≡ Some tt }
         ensures moves { Moves self.old self.new }
         ensures reads { Reads StatementAt levels self.old self.new (here (goto (begin (a statement)))) result }
     {
         let place = self.place();
         self.skip();
-        self.expect_keyword(Keyword::To)?;
+        self.expect(Keyword::To)?;
         let name = self.expect_name()?;
-        if !self.next_is_mark(Mark::OpenSquare) {
+        if !self.next_is(Mark::OpenSquare) {
             return Ok(self.make(Node::Go(place, name)));
         }
         let subscript = self.subscript(levels)?;
@@ -78,23 +75,21 @@ impl Parser<'_> {
 
     // `in =:` and a variable in brackets.
     pub(crate) fn input(&mut self, levels: usize) -> Result<usize, Refusal>
-        requires ready { Ready self.old }
         requires begins { heads (the_keyword Keyword.In) (ahead self.old) ≡ Some tt }
         ensures moves { Moves self.old self.new }
         ensures reads { Reads StatementAt levels self.old self.new (here (goto (begin (a statement)))) result }
     {
         let place = self.place();
         self.skip();
-        self.expect_mark(Mark::Into)?;
+        self.expect(Mark::Into)?;
         let inner = self.open_mark(Mark::OpenRound, levels)?;
         let target = self.variable(inner)?;
-        self.expect_mark(Mark::CloseRound)?;
+        self.expect(Mark::CloseRound)?;
         Ok(self.make(Node::Input(place, target)))
     }
 
     // `print` and expressions in brackets.
     pub(crate) fn print(&mut self, levels: usize) -> Result<usize, Refusal>
-        requires ready { Ready self.old }
         requires begins { heads (the_keyword Keyword.Print) (ahead self.old) ≡ Some tt }
         ensures moves { Moves self.old self.new }
         ensures reads { Reads StatementAt levels self.old self.new (here (goto (begin (a statement)))) result }
@@ -102,14 +97,13 @@ impl Parser<'_> {
         let place = self.place();
         self.skip();
         let inner = self.open_mark(Mark::OpenRound, levels)?;
-        let all = self.expressions(inner)?;
-        self.expect_mark(Mark::CloseRound)?;
+        let all = self.row::<ExpressionPart>(inner)?;
+        self.expect(Mark::CloseRound)?;
         Ok(self.make(Node::Printed(place, all)))
     }
 
     // `stop`.
     pub(crate) fn stop(&mut self) -> usize
-        requires ready { Ready self.old }
         requires begins { heads (the_keyword Keyword.Stop) (ahead self.old) ≡ Some tt }
         ensures moves { Moves self.old self.new }
         ensures reads { (levels : ℕ) → Read StatementAt levels self.old self.new (here (goto (begin (a statement)))) result }

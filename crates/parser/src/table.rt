@@ -1,5 +1,6 @@
 // The work table and the parser over it.
 
+ghost use Rattle.std.specs.Prelude.{◌≤◌, length};
 ghost use Rattle.words.specs.declared.word.Word.{Word as WordRecord};
 
 use crate::node::Node;
@@ -7,7 +8,7 @@ use words::table::WordSlot;
 use words::word::Word;
 
 // A record of the work table: a word of the text, the line of the symbol table that the word's name has, where it is a
-// name, and a node of the tree.
+// name, and a node of the tree. Words and nodes share the lent records, since the library has no heap.
 #[derive(Clone, Copy)]
 pub struct Record {
     pub word: Word,
@@ -28,6 +29,7 @@ impl WordSlot for Record {
 }
 
 // The text, the table with its words first, how many words there are, how many are taken, and how many nodes are made.
+// The words stand in the table, no more are taken than there are, and no more nodes are made than words were taken.
 #[derive(Drop)]
 pub struct Parser<'a> {
     pub text: &'a [u8],
@@ -35,4 +37,7 @@ pub struct Parser<'a> {
     pub count: usize,
     pub at: usize,
     pub made: usize,
+    pub ghost within: { at ≤ count },
+    pub ghost room: { count ≤ length table.now },
+    pub ghost thrift: { made ≤ at },
 }

@@ -1,8 +1,6 @@
 use Rattle.std.proofs.Common.{◌+◌, ◌-◌, ◌*◌}
 use Rattle.grammar.specs.Grammar.{statement}
-use Rattle.parser.specs.Records.{StatementAt}
 use Rattle.parser.proofs.Rows.{RowGoes}
-use Rattle.parser.proofs.Standing.{statement_stays}
 use Rattle.parser.proofs.table.Parser.+block_conditional_repetition_statement_statements_unlabelled.Given as goal
 
 abbrev pub decreases-block : goal.decreases-block
@@ -24,7 +22,7 @@ abbrev pub decreases-unlabelled : goal.decreases-unlabelled
 decreases-unlabelled l = 5 * (l.self.now.count - l.self.now.at) + 2
 
 abbrev pub invariant-statements-loop-self : goal.invariant-statements-loop-self
-invariant-statements-loop-self l = RowGoes statement StatementAt statement_stays l.levels l.initial.self l.initial.all l.self l.all
+invariant-statements-loop-self l = RowGoes statement l.levels l.initial.self l.initial.all l.self l.all
 
 abbrev pub decreases-statements-loop-self : goal.decreases-statements-loop-self
 decreases-statements-loop-self l = l.self.count - l.self.at

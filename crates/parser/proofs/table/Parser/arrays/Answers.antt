@@ -8,29 +8,29 @@ use Rattle.parser.proofs.Items.{arrays_begun, arrays_opened, arrays_inner, array
 use Rattle.parser.proofs.table.Parser.arrays.Goals as goal
 
 pub skip-requires : goal.skip-requires
-skip-requires c = record { ready = c.requires.ready; left = word_left (the_keyword Array) tt c.args.self.now c.requires.begins }
+skip-requires c = record { left = word_left (the_keyword Array) tt c.args.self.now c.requires.begins }
 
 pub returns-in_err-inner : goal.returns-in_err-inner
 returns-in_err-inner c =
     let p = err_from_is_err_and c.from_residual.result c.from_residual.ensures.1 in
-    rw (p.1, p.2) (stops_unopened c.open_mark.new.self _ c.open_mark.ensures.moves refl refl (arrays_begun c.requires.ready c.requires.begins c.skip.ensures.took) c.in_err-inner.ensures.opens)
+    rw (p.1, p.2) (stops_unopened c.open_mark.new.self _ c.open_mark.ensures.moves refl refl (arrays_begun c.requires.begins c.skip.ensures.took) c.in_err-inner.ensures.opens)
 
 pub returns-in_err-groups : goal.returns-in_err-groups
 returns-in_err-groups c =
     let p = err_from_is_err_and c.from_residual-in_err-groups.result c.from_residual-in_err-groups.ensures.1 in
     let o = c.in_ok-inner.ensures.opens in
-    rw (p.1, p.2) (stops_behind_deeper c.groups.new.self _ c.groups.ensures.moves o.1.level tt
-    (arrays_opened c.requires.ready c.requires.begins c.skip.ensures.took o.0 o.1) c.in_err-groups.ensures.reads)
+    rw (p.1, p.2) (stops_behind_deeper c.row.new.self _ c.row.ensures.moves o.1.level tt
+    (arrays_opened c.requires.begins c.skip.ensures.took o.0 o.1) c.in_err-groups.ensures.reads)
 
-pub returns-in_err-expect_mark : goal.returns-in_err-expect_mark
-returns-in_err-expect_mark c =
-    let p = err_from_is_err_and c.from_residual-in_err-expect_mark.result c.from_residual-in_err-expect_mark.ensures.1 in
+pub returns-in_err-expect : goal.returns-in_err-expect
+returns-in_err-expect c =
+    let p = err_from_is_err_and c.from_residual-in_err-expect.result c.from_residual-in_err-expect.ensures.1 in
     let o = c.in_ok-inner.ensures.opens in
-    rw (p.1, p.2) (stops_missing_deeper c.expect_mark.new.self _ c.expect_mark.ensures.moves
-    (arrays_inner c.requires.ready c.requires.begins c.skip.ensures.took o.0 o.1 c.in_ok-groups.ensures.reads) c.in_err-expect_mark.ensures.took)
+    rw (p.1, p.2) (stops_missing_deeper c.expect.new.self _ c.expect.ensures.moves
+    (arrays_inner c.requires.begins c.skip.ensures.took o.0 o.1 c.in_ok-groups.ensures.reads) c.in_err-expect.ensures.took)
 
 pub returns : goal.returns
 returns c =
     let o = c.in_ok-inner.ensures.opens in
-    arrays_read c.requires.ready c.requires.begins c.skip.ensures.took o.0 o.1 c.in_ok-groups.ensures.reads
-    c.expect_mark.new.self c.make.new.self c.make.result c.in_ok-expect_mark.ensures.took c.make.ensures
+    arrays_read c.requires.begins c.skip.ensures.took o.0 o.1 c.in_ok-groups.ensures.reads
+    c.expect.new.self c.make.new.self c.make.result c.in_ok-expect.ensures.took c.make.ensures

@@ -1,20 +1,22 @@
+use Rattle.std.proofs.Common.{refl}
 use Rattle.std.proofs.lemmas.Result.{err_from_is_err_and}
 use Rattle.words.specs.declared.token.Keyword.TheVariants.{Integer}
 use Rattle.grammar.specs.Tree.{integer}
 use Rattle.grammar.specs.Classes.{the_keyword}
+use Rattle.parser.specs.declared.node.Node.TheVariants.{Integer as IntegerNode}
 use Rattle.parser.proofs.Tables.{word_left}
 use Rattle.parser.proofs.Moving.{moves_trans}
 use Rattle.parser.proofs.Going.{fails_here}
-use Rattle.parser.proofs.Items.{integers_begun, integers_read}
+use Rattle.parser.proofs.Items.{names_item_begun, names_item_read}
 use Rattle.parser.proofs.table.Parser.integers.Goals as goal
 
 pub skip-requires : goal.skip-requires
-skip-requires c = record { ready = c.requires.ready; left = word_left (the_keyword Integer) tt c.args.self.now c.requires.begins }
+skip-requires c = record { left = word_left (the_keyword Integer) tt c.args.self.now c.requires.begins }
 
 pub returns-in_err-names : goal.returns-in_err-names
 returns-in_err-names c =
     let p = err_from_is_err_and c.from_residual.result c.from_residual.ensures.1 in
-    let g = integers_begun {L = c.args.levels} c.requires.ready c.skip.ensures.took c.requires.begins in
+    let g = names_item_begun Integer integer IntegerNode {L = c.args.levels} c.requires.begins refl (λ d b k. refl) c.skip.ensures.took in
     record {
       moves = moves_trans c.args.self.now c.skip.new.self c.bracketed_names.new.self g.moves c.bracketed_names.ensures.moves;
       reads = rw (p.1, p.2) (fails_here _ g (λ limit d k h. c.in_err-names.ensures.reads integer limit d k h));
@@ -22,4 +24,5 @@ returns-in_err-names c =
 
 pub returns : goal.returns
 returns c =
-    integers_read c.requires.ready c.skip.ensures.took c.bracketed_names.new.self c.make.new.self c.in_ok-names.names c.make.result c.requires.begins (c.in_ok-names.ensures.reads integer) c.make.ensures
+    names_item_read Integer integer IntegerNode c.requires.begins refl (λ d b k. refl) c.skip.ensures.took c.bracketed_names.new.self c.make.new.self c.in_ok-names.names c.make.result
+    (c.in_ok-names.ensures.reads integer) c.make.ensures (λ xs h. h)

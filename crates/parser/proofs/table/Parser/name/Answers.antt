@@ -1,29 +1,27 @@
-use Rattle.std.proofs.Common.{ℕ, ◌<◌, refl, arith}
+use Rattle.std.proofs.Common.{ℕ, ◌<◌, refl, ◌∙◌, arith}
+use Rattle.std.proofs.lemmas.Result.{err_from_is_err_and}
 use Rattle.grammar.specs.Classes.{a_name}
-use Rattle.grammar.specs.Parser.{done}
+use Rattle.grammar.specs.Parser.{done, name_script}
 use Rattle.parser.specs.declared.node.Node.TheVariants.{Simple}
 use Rattle.parser.specs.Promises.{here}
-use Rattle.parser.proofs.Going.{goes_start, goes_word, goes_made}
-use Rattle.parser.proofs.Holding.{made_node}
+use Rattle.parser.specs.Records.{NameAt}
+use Rattle.parser.proofs.Going.{goes_start, goes_alike, goes_word}
 use Rattle.parser.proofs.Naming.{name_taken}
+use Rattle.parser.proofs.Standing.{made_read}
+use Rattle.parser.proofs.Stepping.{fails_missing}
 use Rattle.parser.proofs.table.Parser.name.Goals as goal
 
-pub returns-in-Some : goal.returns-in-Some
-returns-in-Some c =
+pub returns-in_err-word : goal.returns-in_err-word
+returns-in_err-word c =
+    let p = err_from_is_err_and c.from_residual.result c.from_residual.ensures.1 in
+    record { moves = c.expect_name.ensures.moves; reads = λ l. rw (p.1, p.2) (fails_missing {L = l} _ c.in_err-word.ensures.took (goes_alike {y = name_script} goes_start (λ d k t n. refl) (λ d k. refl))) }
+
+pub returns : goal.returns
+returns c =
     let r = c.args.self.now in
-    let s = c.take_name.new.self in
-    let q = c.make.new.self in
-    let t = c.in-Some.ensures.took in
-    let n = name_taken r c.in-Some.w c.in-Some.ensures.is in
-    let paid : s.made < s.at = omega (arith, t.at, t.made, c.requires.thrift) in
-    let goes = λ (levels : ℕ). goes_made {L = levels} (Simple c.in-Some.w) c.make.result q
-    (goes_word a_name n.letters s (λ b. here (done (record { letters = n.letters; place = b }))) (goes_start c.requires) n.next t refl (λ d b k. refl)) paid (omega (arith, t.at, t.made)) c.make.ensures in
-    record {
-      moves = (goes 0).moves;
-      reads = λ levels. record {
-        tree = _;
-        below = omega (arith, c.make.ensures.place, c.make.ensures.made);
-        held = (c.in-Some.w, made_node (Simple c.in-Some.w) c.make.result s q c.in-Some.ensures.ready paid c.make.ensures, n.named q (goes 0).moves.same.words);
-        goes = goes levels;
-      };
-    }
+    let h = c.in_ok-word.ensures.took in
+    let n = name_taken r c.in_ok-word.word h.is in
+    let x = λ (l : ℕ). made_read {L = l} NameAt (Simple c.in_ok-word.word) c.make.result c.make.new.self
+    (goes_word a_name n.letters c.expect_name.new.self (λ b. here (done (record { letters = n.letters; place = b }))) goes_start n.next h.took refl (λ d b k. refl))
+    (omega (arith, h.took.at, h.took.made)) c.make.ensures (λ z. (c.in_ok-word.word, z, n.named c.make.new.self (c.make.ensures.same.words ∙ h.took.same.words))) in
+    record { moves = (x 0).moves; reads = λ l. (x l).reads }

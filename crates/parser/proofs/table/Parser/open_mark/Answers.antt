@@ -3,4 +3,4 @@ use Rattle.parser.proofs.Tables.{word_left}
 use Rattle.parser.proofs.table.Parser.open_mark.Goals as goal
 
 pub open-requires : goal.open-requires
-open-requires c = record { ready = c.requires; left = word_left (the_mark c.args.m) tt c.args.self.now c.if-not-next_is_mark.ensures }
+open-requires c = record { left = word_left (the_mark c.args.m) tt c.args.self.now c.if-not-next_is.ensures }

@@ -6,16 +6,16 @@ use Rattle.parser.proofs.Labelling.{label_name, label_colon, labels_none, labels
 use Rattle.parser.proofs.table.Parser.skip_labels.Goals as goal
 
 pub loop-self-init : goal.loop-self-init
-loop-self-init c = labels_none c.args.self.now c.requires
+loop-self-init c = labels_none c.args.self.now
 
 pub skip-requires : goal.skip-requires
 skip-requires c =
     let x = label_name c.loop-self.self (sym c.loop-self-test.ensures) in
-    record { ready = c.loop-self.invariant.moves.ready; left = word_left a_name x.0 c.loop-self.self x.1 }
+    record { left = word_left a_name x.0 c.loop-self.self x.1 }
 
 pub skip-requires-in-loop-self : goal.skip-requires-in-loop-self
 skip-requires-in-loop-self c =
-    record { ready = c.skip.ensures.ready; left = word_left (the_mark Colon) tt c.skip.new.self (label_colon c.loop-self.self c.skip.new.self (sym c.loop-self-test.ensures) c.skip.ensures.took) }
+    record { left = word_left (the_mark Colon) tt c.skip.new.self (label_colon c.loop-self.self c.skip.new.self (sym c.loop-self-test.ensures) c.skip.ensures.took) }
 
 pub loop-self-preserved : goal.loop-self-preserved
 loop-self-preserved c =

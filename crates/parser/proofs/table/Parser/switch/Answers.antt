@@ -9,29 +9,29 @@ use Rattle.parser.proofs.Items.{switch_begun, switch_named, switch_becomes, swit
 use Rattle.parser.proofs.table.Parser.switch.Goals as goal
 
 pub skip-requires : goal.skip-requires
-skip-requires c = record { ready = c.requires.ready; left = word_left (the_keyword Switch) tt c.args.self.now c.requires.begins }
+skip-requires c = record { left = word_left (the_keyword Switch) tt c.args.self.now c.requires.begins }
 
 pub returns-in_err-name : goal.returns-in_err-name
 returns-in_err-name c =
     let p = err_from_is_err_and c.from_residual.result c.from_residual.ensures.1 in
-    rw (p.1, p.2) (stops_missing c.expect_name.new.self _ c.expect_name.ensures.moves (switch_begun c.requires.ready c.requires.begins c.skip.ensures.took) c.in_err-name.ensures.took)
+    rw (p.1, p.2) (stops_missing c.expect_name.new.self _ c.expect_name.ensures.moves (switch_begun c.requires.begins c.skip.ensures.took) c.in_err-name.ensures.took)
 
-pub returns-in_err-expect_mark : goal.returns-in_err-expect_mark
-returns-in_err-expect_mark c =
-    let p = err_from_is_err_and c.from_residual-in_err-expect_mark.result c.from_residual-in_err-expect_mark.ensures.1 in
-    rw (p.1, p.2) (stops_missing c.expect_mark.new.self _ c.expect_mark.ensures.moves
-    (switch_named c.requires.ready c.requires.begins c.skip.ensures.took c.in_ok-name.ensures.took) c.in_err-expect_mark.ensures.took)
+pub returns-in_err-expect : goal.returns-in_err-expect
+returns-in_err-expect c =
+    let p = err_from_is_err_and c.from_residual-in_err-expect.result c.from_residual-in_err-expect.ensures.1 in
+    rw (p.1, p.2) (stops_missing c.expect.new.self _ c.expect.ensures.moves
+    (switch_named c.requires.begins c.skip.ensures.took c.in_ok-name.ensures.took) c.in_err-expect.ensures.took)
 
 pub returns-in_err-labels : goal.returns-in_err-labels
 returns-in_err-labels c =
     let p = err_from_is_err_and c.from_residual-in_err-labels.result c.from_residual-in_err-labels.ensures.1 in
-    let g = switch_becomes {L = c.args.levels} c.requires.ready c.requires.begins c.skip.ensures.took c.in_ok-name.ensures.took c.in_ok-expect_mark.ensures.took in
+    let g = switch_becomes {L = c.args.levels} c.requires.begins c.skip.ensures.took c.in_ok-name.ensures.took c.in_ok-expect.ensures.took in
     record {
-      moves = moves_trans c.args.self.now c.expect_mark.new.self c.bracketed_names.new.self g.moves c.bracketed_names.ensures.moves;
+      moves = moves_trans c.args.self.now c.expect.new.self c.bracketed_names.new.self g.moves c.bracketed_names.ensures.moves;
       reads = rw (p.1, p.2) (fails_here _ g (λ limit d k h. c.in_err-labels.ensures.reads _ limit d k h));
     }
 
 pub returns : goal.returns
 returns c =
-    switch_read c.requires.ready c.requires.begins c.skip.ensures.took c.in_ok-name.ensures.took c.in_ok-expect_mark.ensures.took
+    switch_read c.requires.begins c.skip.ensures.took c.in_ok-name.ensures.took c.in_ok-expect.ensures.took
     c.bracketed_names.new.self c.make.new.self c.in_ok-labels.labels c.make.result (c.in_ok-labels.ensures.reads _) c.make.ensures

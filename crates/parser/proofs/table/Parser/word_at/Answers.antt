@@ -8,7 +8,7 @@ use Rattle.parser.proofs.table.Parser.word_at.Goals as goal
 pub returns-then-i-self : goal.returns-then-i-self
 returns-then-i-self c =
     let p = c.args.self.now in
-    sym (ap next (ahead_cons p.text.now p.count c.args.i p.table.now (record { word = record { token = Name 0; place = 0 }; symbol = 0; node = Empty }) (omega arith) c.requires.room))
+    sym (ap next (ahead_cons p.text.now p.count c.args.i p.table.now (record { word = record { token = Name 0; place = 0 }; symbol = 0; node = Empty }) (omega arith) c.args.self.now.room))
 
 pub returns-else-i-self : goal.returns-else-i-self
 returns-else-i-self c =

@@ -1,7 +1,0 @@
-use Rattle.std.proofs.Common.{sym}
-use Rattle.grammar.specs.Classes.{a_prefix}
-use Rattle.parser.proofs.Tables.{found_left}
-use Rattle.parser.proofs.table.Parser.take_prefix.Goals as goal
-
-pub skip-requires : goal.skip-requires
-skip-requires c = record { ready = c.requires; left = found_left (a_prefix c.args.rank) c.args.self.now _ c.next_prefix-found.ensures (sym c.if-is_some.ensures) }
