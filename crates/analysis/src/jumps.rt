@@ -12,7 +12,7 @@ ghost use Rattle.analysis.specs.NameLines.{HoldsPlaces};
 ghost use Rattle.analysis.specs.LabelSets.{SmallTable, Sees};
 
 use crate::earliest::{earlier, told};
-use crate::labels::{Labels, add_open_labels, has_line, no_labels};
+use crate::labels::Labels;
 use crate::lines::{number_of, place_of};
 use crate::name_use::{NameUse, does_suit};
 use crate::ordered::ordered_node;
@@ -26,7 +26,7 @@ impl Tables<'_> {
         ensures { (v : View) (ss : List Symbol) (labels : List (List ℕ)) (x : NameTree) → Holds v self.now ss → Sees ss seen.now.lines labels → Named v w x → result ≡ leads_inside ss labels x }
     {
         let label = does_suit(self.kind_of(w), NameUse::AsTarget);
-        let visible = has_line(seen, number_of(self.records, w));
+        let visible = seen.contains(number_of(self.records, w));
         label && !visible
     }
 
@@ -69,7 +69,7 @@ impl Tables<'_> {
             Node::Conditional(_, _, s) => self.jump_offence_seeing(seen, s),
             Node::Repeated(_, _, _, s) => {
                 let mut inner = *seen;
-                add_open_labels(self.records, &mut inner, s);
+                inner.insert_open(self.records, s);
                 self.jump_offence_seeing(&inner, s)
             }
             Node::Go(_, w) => {
@@ -88,8 +88,8 @@ impl Tables<'_> {
     pub fn jump_offence(&self, i: usize) -> Option<usize>
         ensures { (v : View) (ss : List Symbol) (t : Row ItemTree) → Holds v self.now ss → HoldsPlaces v self.now.records.now → SmallTable ss → RowAt Item_at v t i → result ≡ earliest_of (wrong_jumps ss t) }
     {
-        let mut outer = no_labels();
-        add_open_labels(self.records, &mut outer, i);
+        let mut outer = Labels::new();
+        outer.insert_open(self.records, i);
         self.jump_offence_seeing(&outer, i)
     }
 }

@@ -15,9 +15,7 @@ ghost use Rattle.analysis.specs.PartTypes.{part_in};
 use crate::earliest::{earlier, told};
 use crate::lines::place_of;
 use crate::ordered::ordered_node;
-use crate::part_type::{
-    PartType, differs, does_number_differ, type_of_declared, type_of_operator, type_of_prefix,
-};
+use crate::part_type::PartType;
 use crate::tables::Tables;
 use parser::node::Node;
 
@@ -26,14 +24,14 @@ impl Tables<'_> {
     fn name_type(&self, w: usize) -> PartType
         ensures { (v : View) (ss : List Symbol) (x : NameTree) → Holds v self.now ss → Named v w x → part_in result ≡ name_type ss x }
     {
-        type_of_declared(self.type_of(w))
+        PartType::from(self.type_of(w))
     }
 
     // The offence of the name that word w is.
     fn name_offence(&self, want: PartType, w: usize) -> Option<usize>
         ensures { (v : View) (ss : List Symbol) (x : NameTree) → Holds v self.now ss → HoldsPlaces v self.now.records.now → Named v w x → result ≡ earliest_of (told_at (types_differ (part_in want) (name_type ss x)) x.place) }
     {
-        told(differs(want, self.name_type(w)), place_of(self.records, w))
+        told(want.differs(self.name_type(w)), place_of(self.records, w))
     }
 
     // The place of the first byte of the expression at node i.
@@ -68,7 +66,7 @@ impl Tables<'_> {
         ensures { EarliestIn ExpAt (λ ss. exp_offences ss (part_in want)) self.now i result }
     {
         match ordered_node(self.records, i) {
-            Node::Literal(n, p) => told(does_number_differ(want, n), p),
+            Node::Literal(n, p) => told(want.does_number_differ(n), p),
             Node::Simple(w) => self.name_offence(want, w),
             Node::Subscripted(w, a) => {
                 let array = self.name_offence(want, w);
@@ -76,14 +74,14 @@ impl Tables<'_> {
                 earlier(array, subscript)
             }
             Node::Prefixed(o, p, a) => {
-                let t = type_of_prefix(o);
-                let sign = told(differs(want, t), p);
+                let t = PartType::from(o);
+                let sign = told(want.differs(t), p);
                 let operand = self.exp_offence(t, a);
                 earlier(sign, operand)
             }
             Node::Joined(o, a, b) => {
-                let u = type_of_operator(o);
-                let row = self.told_at_first_byte(differs(want, u), a);
+                let u = PartType::from(o);
+                let row = self.told_at_first_byte(want.differs(u), a);
                 let left = self.exp_offence(u, a);
                 let right = self.exp_offence(u, b);
                 let operands = earlier(left, right);
@@ -91,7 +89,7 @@ impl Tables<'_> {
             }
             Node::Bracketed(_, a) => self.exp_offence(want, a),
             Node::Compared(_, p, a, b) => {
-                let bracket = told(differs(want, PartType::TruthValue), p);
+                let bracket = told(want.differs(PartType::TruthValue), p);
                 let first = self.exp_offence(PartType::Arithmetic, a);
                 let second = self.exp_offence(PartType::Arithmetic, b);
                 let sides = earlier(first, second);

@@ -35,19 +35,19 @@ returns-in-Prefixed t c = λ v ss e h p k.
     from_prefixed (At ss (part_in c.args.want) c.earlier-in-Prefixed.result) (exp_node c.args.self.now.records.now v c.args.i _ h.nodes c.in-Prefixed.ensures.is e k)
     (λ g l. c.earlier-in-Prefixed.ensures
     ∙ both c.told-sign.result c.exp_offence-operand.result (told (differs (part_in c.args.want) (prefix_type c.in-Prefixed.o)) c.in-Prefixed.p) (exp_offences ss (prefix_type c.in-Prefixed.o) g)
-    (told_same c.told-sign.ensures (c.differs.ensures ∙ ap (λ (z : PartType). differs (part_in c.args.want) z) c.type_of_prefix-t.ensures) refl)
-    (retyped ss g (c.exp_offence-operand.ensures v ss g h p l) c.type_of_prefix-t.ensures))
+    (told_same c.told-sign.ensures (c.differs.ensures ∙ ap (λ (z : PartType). differs (part_in c.args.want) z) c.from-t.ensures) refl)
+    (retyped ss g (c.exp_offence-operand.ensures v ss g h p l) c.from-t.ensures))
 
 pub returns-in-Joined : goal.returns-in-Joined
 returns-in-Joined t c = λ v ss e h p k.
     from_joined (At ss (part_in c.args.want) c.earlier-in-Joined.result) (exp_node c.args.self.now.records.now v c.args.i _ h.nodes c.in-Joined.ensures.is e k)
     (λ g j l m. c.earlier-in-Joined.ensures
     ∙ both c.told_at_first_byte-row.result c.earlier-operands.result (told (differs (part_in c.args.want) (operator_type c.in-Joined.o)) (first_byte g)) (exp_offences ss (operator_type c.in-Joined.o) g ++ exp_offences ss (operator_type c.in-Joined.o) j)
-    (told_same (c.told_at_first_byte-row.ensures v g h.nodes p l) (c.differs-in-Joined.ensures ∙ ap (λ (z : PartType). differs (part_in c.args.want) z) c.type_of_operator-u.ensures) refl)
+    (told_same (c.told_at_first_byte-row.ensures v g h.nodes p l) (c.differs-in-Joined.ensures ∙ ap (λ (z : PartType). differs (part_in c.args.want) z) c.from-u.ensures) refl)
     (c.earlier-operands.ensures
     ∙ both c.exp_offence-left.result c.exp_offence-right.result (exp_offences ss (operator_type c.in-Joined.o) g) (exp_offences ss (operator_type c.in-Joined.o) j)
-    (retyped ss g (c.exp_offence-left.ensures v ss g h p l) c.type_of_operator-u.ensures)
-    (retyped ss j (c.exp_offence-right.ensures v ss j h p m) c.type_of_operator-u.ensures)))
+    (retyped ss g (c.exp_offence-left.ensures v ss g h p l) c.from-u.ensures)
+    (retyped ss j (c.exp_offence-right.ensures v ss j h p m) c.from-u.ensures)))
 
 pub returns-in-Bracketed : goal.returns-in-Bracketed
 returns-in-Bracketed t c = λ v ss e h p k.

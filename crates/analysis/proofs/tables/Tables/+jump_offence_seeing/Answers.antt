@@ -34,7 +34,7 @@ pub returns-in-Repeated : goal.returns-in-Repeated
 returns-in-Repeated t c = λ v ss labels u h p small sees k.
     from_repeated (At ss labels c.jump_offence_seeing-in-Repeated.result) (items_node c.args.self.now.records.now v c.args.i _ h.nodes c.in-Repeated.ensures.is u k)
     (λ x es s n l m. c.jump_offence_seeing-in-Repeated.ensures v ss (open_labels s ++ labels) (act s) h p small
-    (c.add_open_labels.ensures v c.args.self.now.names.now ss labels (act s) h small sees m) m)
+    (c.insert_open.ensures v c.args.self.now.names.now ss labels (act s) h small sees m) m)
 
 pub returns-in-Go : goal.returns-in-Go
 returns-in-Go t c = λ v ss labels u h p small sees k.

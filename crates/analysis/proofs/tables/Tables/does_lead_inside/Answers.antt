@@ -9,15 +9,15 @@ use Rattle.analysis.proofs.tables.Tables.does_lead_inside.Goals as goal
 
 pub returns-then-label : goal.returns-then-label
 returns-then-label c = λ v ss labels x h sees n.
-    ap (λ (t : Bool). t && not c.has_line-visible.result) (sym c.if-label.true)
+    ap (λ (t : Bool). t && not c.contains-visible.result) (sym c.if-label.true)
     ∙ both_agree {c = is_label (kind_in ss x.letters)} {d = is_among labels x.letters}
     (c.does_suit-label.ensures ∙ suits_alike (c.kind_of.ensures v ss x h n) AsTarget)
-    (c.has_line-visible.ensures ∙ sees x.letters c.number_of.result (numbered_by v c.args.self.now.records.now c.args.self.now.names.now ss c.args.w x h n c.number_of.result c.number_of.ensures))
+    (c.contains-visible.ensures ∙ sees x.letters c.number_of.result (numbered_by v c.args.self.now.records.now c.args.self.now.names.now ss c.args.w x h n c.number_of.result c.number_of.ensures))
 
 pub returns-else-label : goal.returns-else-label
 returns-else-label c = λ v ss labels x h sees n.
     c.if-label.false
-    ∙ (ap (λ (t : Bool). t && not c.has_line-visible.result) (sym c.if-label.false)
+    ∙ (ap (λ (t : Bool). t && not c.contains-visible.result) (sym c.if-label.false)
     ∙ both_agree {c = is_label (kind_in ss x.letters)} {d = is_among labels x.letters}
     (c.does_suit-label.ensures ∙ suits_alike (c.kind_of.ensures v ss x h n) AsTarget)
-    (c.has_line-visible.ensures ∙ sees x.letters c.number_of.result (numbered_by v c.args.self.now.records.now c.args.self.now.names.now ss c.args.w x h n c.number_of.result c.number_of.ensures)))
+    (c.contains-visible.ensures ∙ sees x.letters c.number_of.result (numbered_by v c.args.self.now.records.now c.args.self.now.names.now ss c.args.w x h n c.number_of.result c.number_of.ensures)))

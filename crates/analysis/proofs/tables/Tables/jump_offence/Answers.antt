@@ -5,8 +5,8 @@ use Rattle.analysis.proofs.tables.Tables.jump_offence.Goals as goal
 
 pub returns : goal.returns
 returns c = λ v ss t h p small k.
-    let P : List (List ℕ) → Type 0 = λ l. Sees ss c.add_open_labels.new.seen.lines l in
+    let P : List (List ℕ) → Type 0 = λ l. Sees ss c.insert_open.new.self.lines l in
     c.jump_offence_seeing.ensures v ss (outer_labels t) t h p small
     (subst P (append-nil (outer_labels t))
-    (c.add_open_labels.ensures v c.args.self.now.names.now ss [] t h small (λ x j n. c.no_labels-outer.ensures j) k))
+    (c.insert_open.ensures v c.args.self.now.names.now ss [] t h small (λ x j n. c.new-outer.ensures j) k))
     k
