@@ -1,6 +1,8 @@
 -- From a word to the line of its name: the numbers and places that the work table has, and the record of a line.
 use Rattle.std.proofs.Common.{◌≡◌, ℕ, zero, suc, ◌<◌, ◌≤◌, List, [], ◌∷◌, map, length, get_or, take, Some, None, Option, sym, refl, ap, ◌∙◌, subst, arith}
+use Rattle.std.specs.Borrow.{Bor}
 use Rattle.std.specs.List.{slice_get}
+use Rattle.std.specs.Option.{IsSome, unwrap_or, option_copied, option_map_or}
 use Rattle.words.specs.Token.{Word, name}
 use Rattle.words.specs.Records.{word_in}
 use Rattle.grammar.specs.Tree.{Name}
@@ -9,6 +11,7 @@ use Rattle.parser.specs.Records.{words, View, Named}
 use Rattle.symbols.specs.declared.value_type.ValueType.TheVariants.{Untyped}
 use Rattle.symbols.specs.Symbols.{Kind, a_variable, Symbol, said, kind_in, type_in}
 use Rattle.analysis.specs.declared.symbol.NameKind.{NameKind}
+use Rattle.analysis.specs.declared.symbol.NameKind.TheVariants.{Variable}
 use Rattle.analysis.specs.declared.symbol.NameRecord.{NameRecord}
 use Rattle.analysis.specs.SymbolTable.{LineAt, KindAt, LinesAt, none, one_more, line_numbers, Numbered, HoldsSymbols}
 use Rattle.analysis.specs.NameLines.{LineFound, word_places, PlacesLaw}
@@ -36,6 +39,11 @@ place_within = number_within (λ r. r.word.place) word_places refl (λ r rs. ref
 
 pub place_past : (rs : List Record) (w : ℕ) → length rs ≤ w → 0 ≡ get_or (word_places rs) w 0
 place_past = number_past (λ r. r.word.place) word_places refl (λ r rs. refl)
+
+-- What is behind a reference that there is.
+pub copied_some : {A : Type 0} (o : Option (Bor A)) (d a : A) → IsSome o → unwrap_or (option_copied o) d ≡ a → option_copied o ≡ Some a
+copied_some (Some b) d a h e = ap Some e
+copied_some None d a h e = cc
 
 -- Each line of the symbol table has its record.
 record HeldAt (v : View) (ns : List NameRecord) (ss : List Symbol) (k : ℕ) (d : NameRecord) : Type 0 where
@@ -70,20 +78,17 @@ module _ (v : View) (rs : List Record) (ns : List NameRecord) (ss : List Symbol)
 
 -- What the record found says is what the symbol table says.
 module _ {v : View} {ss : List Symbol} {x : List ℕ} where
-  pub line_type : (r : NameRecord) → LineFound v ss x (Some r) → r.value_type ≡ type_in ss x
+  pub line_type : (r : Option NameRecord) → LineFound v ss x r → option_map_or (λ l. l.value_type) r Untyped ≡ type_in ss x
   line_type r l =
-      let e : r ≡ l.entry = let g = l.given in cc in
-      ap (λ (u : NameRecord). u.value_type) e ∙ (l.held.type ∙ sym (ap (λ (o : Option Symbol). said (λ s. s.type) Untyped o) l.found))
+      ap (λ (o : Option NameRecord). option_map_or (λ u. u.value_type) o Untyped) l.given
+      ∙ (l.held.type ∙ sym (ap (λ (o : Option Symbol). said (λ s. s.type) Untyped o) l.found))
 
-  pub line_kind : (r : NameRecord) → LineFound v ss x (Some r) → KindAt v r.kind (kind_in ss x)
-  line_kind r l =
-      let e : l.entry ≡ r = let g = l.given in cc in
+  pub line_kind : (r : Option NameRecord) (k : NameKind) → k ≡ option_map_or (λ l. l.kind) r Variable → LineFound v ss x r → KindAt v k (kind_in ss x)
+  line_kind r k e l =
       let P : NameKind → Type 0 = λ n. KindAt v n (kind_in ss x) in
       let Q : Kind → Type 0 = λ k. KindAt v l.entry.kind k in
-      subst P (ap (λ (u : NameRecord). u.kind) e) (subst Q (sym (ap (λ (o : Option Symbol). said (λ s. s.kind) a_variable o) l.found)) l.held.kind)
-
-  pub line_there_is : LineFound v ss x None → ⊥
-  line_there_is l = let g = l.given in let z : ◌≡◌ {A = ℕ} 0 1 = cc in omega arith
+      subst P (sym (e ∙ ap (λ (o : Option NameRecord). option_map_or (λ u. u.kind) o Variable) l.given))
+      (subst Q (sym (ap (λ (o : Option Symbol). said (λ s. s.kind) a_variable o) l.found)) l.held.kind)
 
 -- The place of a word that was read from the text.
 word_of : (text : List ℕ) (n : ℕ) (rs : List Record) (w : ℕ) (d : Word) → w < length (map (word_in text) (take n (words rs))) → (get_or (map (word_in text) (take n (words rs))) w d).place ≡ get_or (word_places rs) w 0

@@ -4,6 +4,7 @@ pub mod Letters
 pub mod Search
 pub mod LineSearch
 pub mod SymbolTable
+pub mod Tables
 pub mod Ordered
 pub mod NameLines
 pub mod PartTypes

@@ -19,5 +19,5 @@ pub fn earlier(a: Option<usize>, b: Option<usize>) -> Option<usize>
 pub fn told(offends: bool, p: usize) -> Option<usize>
     ensures { result ≡ earliest_of (told_at offends p) }
 {
-    if offends { Some(p) } else { None }
+    offends.then_some(p)
 }

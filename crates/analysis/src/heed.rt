@@ -12,31 +12,21 @@ use symbols::value_type::ValueType;
 pub fn is_defined_kind(kind: NameKind) -> bool
     ensures { result ≡ is_defined_kind kind }
 {
-    match kind {
-        NameKind::Variable => false,
-        _ => true,
-    }
+    !matches!(kind, NameKind::Variable)
 }
 
 // Does control go there?
 pub fn is_target_kind(kind: NameKind) -> bool
     ensures { result ≡ is_target_kind kind }
 {
-    match kind {
-        NameKind::Label => true,
-        NameKind::Switch(_) => true,
-        _ => false,
-    }
+    matches!(kind, NameKind::Label | NameKind::Switch(_))
 }
 
 // Is this type given by a list?
 pub fn is_typed_as(t: ValueType) -> bool
     ensures { result ≡ is_typed_as t }
 {
-    match t {
-        ValueType::Untyped => false,
-        _ => true,
-    }
+    t != ValueType::Untyped
 }
 
 // The line where the declaration is marked.

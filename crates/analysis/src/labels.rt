@@ -16,51 +16,53 @@ use parser::node::Node;
 use parser::table::Record;
 
 // Which lines of the symbol table are in the set.
-#[derive(Clone, Copy)]
+#[derive(Clone, Copy, PartialEq, Eq, Debug)]
 pub struct Labels {
     pub lines: [bool; 256],
 }
 
-// The empty set.
-pub fn no_labels() -> Labels
-    ensures { (k : ℕ) → slice_index_or result.lines k false ≡ false }
-{
-    Labels {
-        lines: [false; 256],
-    }
-}
-
-// Is line k in the set?
-pub fn has_line(seen: &Labels, k: usize) -> bool
-    ensures { result ≡ slice_index_or seen.now.lines k false }
-{
-    if k < 256 { seen.lines[k] } else { false }
-}
-
-// Puts line k into the set.
-fn add_line(seen: &mut Labels, k: usize)
-    ensures added { k < 256 → slice_index_or seen.new.lines k false ≡ true }
-    ensures kept { (j : ℕ) → (j ≢ k) → slice_index_or seen.new.lines j false ≡ slice_index_or seen.old.lines j false }
-{
-    if k < 256 {
-        seen.lines[k] = true;
-    }
-}
-
-// Puts the labels of the items at node i that stand in no for's body within them into the set.
-pub fn add_open_labels(records: &[Record], seen: &mut Labels, i: usize)
-    ensures { (v : View) (names : List NameRecord) (ss : List Symbol) (labels : List (List ℕ)) (t : Row ItemTree) → HoldsSymbols v records.now names ss → SmallTable ss → Sees ss seen.old.lines labels → RowAt Item_at v t i → Sees ss seen.new.lines (each item_labels t ++ labels) }
-{
-    match ordered_node(records, i) {
-        Node::More(a, b) => {
-            add_open_labels(records, seen, b);
-            add_open_labels(records, seen, a);
+impl Labels {
+    // The empty set.
+    pub fn new() -> Labels
+        ensures { (k : ℕ) → slice_index_or result.lines k false ≡ false }
+    {
+        Labels {
+            lines: [false; 256],
         }
-        Node::Labelled(w, s) => {
-            add_open_labels(records, seen, s);
-            add_line(seen, number_of(records, w));
+    }
+
+    // Is line k in the set?
+    pub fn contains(&self, k: usize) -> bool
+        ensures { result ≡ slice_index_or self.now.lines k false }
+    {
+        k < 256 && self.lines[k]
+    }
+
+    // Puts line k into the set.
+    fn insert(&mut self, k: usize)
+        ensures added { k < 256 → slice_index_or self.new.lines k false ≡ true }
+        ensures kept { (j : ℕ) → (j ≢ k) → slice_index_or self.new.lines j false ≡ slice_index_or self.old.lines j false }
+    {
+        if k < 256 {
+            self.lines[k] = true;
         }
-        Node::Conditional(_, _, s) => add_open_labels(records, seen, s),
-        _ => {}
+    }
+
+    // Puts the labels of the items at node i that stand in no for's body within them into the set.
+    pub fn insert_open(&mut self, records: &[Record], i: usize)
+        ensures { (v : View) (names : List NameRecord) (ss : List Symbol) (labels : List (List ℕ)) (t : Row ItemTree) → HoldsSymbols v records.now names ss → SmallTable ss → Sees ss self.old.lines labels → RowAt Item_at v t i → Sees ss self.new.lines (each item_labels t ++ labels) }
+    {
+        match ordered_node(records, i) {
+            Node::More(a, b) => {
+                self.insert_open(records, b);
+                self.insert_open(records, a);
+            }
+            Node::Labelled(w, s) => {
+                self.insert_open(records, s);
+                self.insert(number_of(records, w));
+            }
+            Node::Conditional(_, _, s) => self.insert_open(records, s),
+            _ => {}
+        }
     }
 }

@@ -25,6 +25,7 @@ mod ordered;
 mod part_type;
 pub mod search;
 pub mod symbol;
+pub mod tables;
 pub mod tree;
 pub mod types;
 pub mod usage;

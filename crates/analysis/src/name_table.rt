@@ -2,7 +2,7 @@
 
 // How many lines the table has; the earliest declaration that is one too many; the cells of the names, and with the
 // hidden ones all cells, counted up to 2,049; and the earliest place that takes their number past 2,048.
-#[derive(Clone, Copy)]
+#[derive(Clone, Copy, PartialEq, Eq, Debug)]
 pub struct NameTable {
     pub lines: usize,
     pub second: Option<usize>,

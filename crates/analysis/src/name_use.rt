@@ -6,7 +6,7 @@ ghost use Rattle.analysis.specs.Uses.{kind_suits};
 use crate::symbol::NameKind;
 
 // How a name is used: as a label, as a switch, as a simple variable, as an array.
-#[derive(Clone, Copy)]
+#[derive(Clone, Copy, PartialEq, Eq, Debug)]
 pub enum NameUse {
     AsTarget,
     AsSelector,
@@ -18,11 +18,11 @@ pub enum NameUse {
 pub fn does_suit(kind: NameKind, usage: NameUse) -> bool
     ensures { result ≡ kind_suits kind usage }
 {
-    match (kind, usage) {
-        (NameKind::Label, NameUse::AsTarget) => true,
-        (NameKind::Switch(_), NameUse::AsSelector) => true,
-        (NameKind::Variable, NameUse::AsVariable) => true,
-        (NameKind::Array(_, _), NameUse::AsElement) => true,
-        _ => false,
-    }
+    matches!(
+        (kind, usage),
+        (NameKind::Label, NameUse::AsTarget)
+            | (NameKind::Switch(_), NameUse::AsSelector)
+            | (NameKind::Variable, NameUse::AsVariable)
+            | (NameKind::Array(_, _), NameUse::AsElement)
+    )
 }

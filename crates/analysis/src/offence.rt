@@ -3,7 +3,7 @@
 use symbols::refusal::NameRefusal;
 
 // The earliest offence against each rule: 7, 8, 9, 10, 11 and 12.
-#[derive(Clone, Copy)]
+#[derive(Clone, Copy, PartialEq, Eq, Debug)]
 pub struct Offences {
     pub second_definition: Option<usize>,
     pub misused_name: Option<usize>,
@@ -14,7 +14,7 @@ pub struct Offences {
 }
 
 // A rule that is broken, and the place.
-#[derive(Clone, Copy)]
+#[derive(Clone, Copy, PartialEq, Eq, Debug)]
 pub struct Broken {
     pub rule: NameRefusal,
     pub place: usize,

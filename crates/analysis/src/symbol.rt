@@ -4,7 +4,7 @@ use parser::node::Bound;
 use symbols::value_type::ValueType;
 
 // What a name is.
-#[derive(Clone, Copy)]
+#[derive(Clone, Copy, PartialEq, Eq, Debug)]
 pub enum NameKind {
     Label,
     // The node of its row of labels.
@@ -16,7 +16,7 @@ pub enum NameKind {
 
 // A line of the symbol table: the word where the name first appears, what it is, its type, its first cell, the place
 // in the code of a label or of a switch's table, and whether it is defined as a label or a switch anywhere in the text.
-#[derive(Clone, Copy)]
+#[derive(Clone, Copy, PartialEq, Eq, Debug)]
 pub struct NameRecord {
     pub word: usize,
     pub kind: NameKind,

@@ -10,9 +10,5 @@ use parser::table::Record;
 pub fn node_of(records: &[Record], i: usize) -> Node
     ensures { result ≡ node_of records.now i }
 {
-    if i < records.len() {
-        records[i].node
-    } else {
-        Node::Empty
-    }
+    records.get(i).map_or(Node::Empty, |record| record.node)
 }

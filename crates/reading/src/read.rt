@@ -18,12 +18,10 @@ use crate::accepted::Accepted;
 use crate::refusal::TextRefusal;
 use analysis::bounds::bounds_offence;
 use analysis::fill::fill_names;
-use analysis::jumps::jump_offence;
 use analysis::name_table::NameTable;
 use analysis::offence::Offences;
 use analysis::symbol::NameRecord;
-use analysis::types::type_offence;
-use analysis::usage::misuse_offence;
+use analysis::tables::Tables;
 use analysis::verdict::first_broken;
 use grammar::refusal::SentenceRefusal;
 use parser::parse::{Sentence, parse};
@@ -33,15 +31,15 @@ use parser::table::Record;
 const FEWEST_NAMES: usize = 256;
 
 // The earliest offence of the tree at the root against each rule on names.
-fn offences_of(records: &[Record], names: &[NameRecord], root: usize, filled: NameTable) -> Offences
-    ensures { (v : View) (lines : List Line) (t : Program) → Filled v records.now lines (symbols t) (occurrences t) (fors t) filled → names.now ≡ take filled.lines lines → HoldsPlaces v records.now → SmallTable (symbols t) → ProgramAt v t root → OffencesOf t result }
+fn offences_of(tables: &Tables, root: usize, filled: NameTable) -> Offences
+    ensures { (v : View) (lines : List Line) (t : Program) → Filled v tables.now.records.now lines (symbols t) (occurrences t) (fors t) filled → tables.now.names.now ≡ take filled.lines lines → HoldsPlaces v tables.now.records.now → SmallTable (symbols t) → ProgramAt v t root → OffencesOf t result }
 {
     Offences {
         second_definition: filled.second,
-        misused_name: misuse_offence(records, names, root),
-        wrong_type: type_offence(records, names, root),
-        jump_into_for: jump_offence(records, names, root),
-        wrong_bounds: bounds_offence(records, root),
+        misused_name: tables.misuse_offence(root),
+        wrong_type: tables.type_offence(root),
+        jump_into_for: tables.jump_offence(root),
+        wrong_bounds: bounds_offence(tables.records, root),
         too_many_cells: filled.too_many,
     }
 }
@@ -57,9 +55,13 @@ fn judge(
 {
     let filled = fill_names(text, table, sentence.words, sentence.root, names);
     let used = filled.lines.min(names.len());
-    let offences = offences_of(table, &names[0..used], sentence.root, filled);
+    let tables = Tables {
+        records: table,
+        names: &names[0..used],
+    };
+    let offences = offences_of(&tables, sentence.root, filled);
     match first_broken(offences) {
-        Some(broken) => Err(TextRefusal::Names(broken)),
+        Some(broken) => Err(broken.into()),
         None => Ok(Accepted {
             root: sentence.root,
             words: sentence.words,
@@ -79,13 +81,12 @@ pub fn read(
     ensures { Reads text.now (length table.old) (length names.old) result table.new names.new }
 {
     if names.len() < FEWEST_NAMES {
-        return Err(TextRefusal::Sentence(ParseRefusal::Sentence(Refusal {
+        let refusal = ParseRefusal::Sentence(Refusal {
             reason: SentenceRefusal::TableTooShort,
             place: 0,
-        })));
+        });
+        return Err(refusal.into());
     }
-    match parse(text, table) {
-        Ok(sentence) => judge(text, table, names, sentence),
-        Err(refusal) => Err(TextRefusal::Sentence(refusal)),
-    }
+    let sentence = parse(text, table)?;
+    judge(text, table, names, sentence)
 }

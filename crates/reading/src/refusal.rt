@@ -2,12 +2,13 @@
 
 ghost use Rattle.std.specs.Prelude.{◌≡◌};
 ghost use Rattle.reading.specs.Refusal.{number, place};
+ghost use Rattle.reading.specs.declared.refusal.TextRefusal.TheVariants.{Sentence, Names};
 
 use analysis::offence::Broken;
 use parser::refusal::ParseRefusal;
 
 // By its words or its sentence, or by the rules on names.
-#[derive(Clone, Copy)]
+#[derive(Clone, Copy, PartialEq, Eq, Debug)]
 pub enum TextRefusal {
     Sentence(ParseRefusal),
     Names(Broken),
@@ -32,5 +33,21 @@ impl TextRefusal {
             TextRefusal::Sentence(refusal) => refusal.place(),
             TextRefusal::Names(broken) => broken.place,
         }
+    }
+}
+
+impl From<ParseRefusal> for TextRefusal {
+    ghost from_gives = { λ refused r. r ≡ Sentence refused };
+
+    fn from(refused: ParseRefusal) -> TextRefusal {
+        TextRefusal::Sentence(refused)
+    }
+}
+
+impl From<Broken> for TextRefusal {
+    ghost from_gives = { λ told r. r ≡ Names told };
+
+    fn from(told: Broken) -> TextRefusal {
+        TextRefusal::Names(told)
     }
 }

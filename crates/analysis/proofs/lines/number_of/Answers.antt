@@ -1,8 +1,12 @@
+use Rattle.std.proofs.Common.{rules, ◌≡◌, ◌∙◌}
+use Rattle.std.specs.Option.{option_map_or}
 use Rattle.analysis.proofs.NameLines.{line_number_within, line_number_past}
+use Rattle.analysis.proofs.Nodes.{read_or}
 use Rattle.analysis.proofs.lines.number_of.Goals as goal
 
-pub returns-then-w-records : goal.returns-then-w-records
-returns-then-w-records c = line_number_within c.args.records.now c.args.w _ c.if-w-records.true
-
-pub returns-else-w-records : goal.returns-else-w-records
-returns-else-w-records c = line_number_past c.args.records.now c.args.w c.if-w-records.false
+pub returns : goal.returns
+returns c =
+    let read : c.map_or.result ≡ option_map_or (λ x. x.now.symbol) c.get.result 0 = search rules in
+    let (is, held, there, cases, value) = c.get.ensures.lookup in
+    let rs = c.args.records.now in
+    read ∙ read_or (λ r. r.symbol) rs c.args.w 0 _ c.get.result cases held (λ d h. line_number_within rs c.args.w d h) (λ h. line_number_past rs c.args.w h)

@@ -1,4 +1,0 @@
-use Rattle.analysis.proofs.jumps.+does_any_lead_inside.Given as goal
-
-abbrev pub decreases-does_any_lead_inside : goal.decreases-does_any_lead_inside
-decreases-does_any_lead_inside l = l.i

@@ -1,4 +1,0 @@
-use Rattle.analysis.proofs.types.+exp_offence.Given as goal
-
-abbrev pub decreases-exp_offence : goal.decreases-exp_offence
-decreases-exp_offence l = l.i

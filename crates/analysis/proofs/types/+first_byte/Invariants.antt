@@ -1,4 +1,0 @@
-use Rattle.analysis.proofs.types.+first_byte.Given as goal
-
-abbrev pub decreases-first_byte : goal.decreases-first_byte
-decreases-first_byte l = l.i

@@ -1,4 +1,0 @@
-use Rattle.analysis.proofs.usage.+elements_misuse.Given as goal
-
-abbrev pub decreases-elements_misuse : goal.decreases-elements_misuse
-decreases-elements_misuse l = l.i

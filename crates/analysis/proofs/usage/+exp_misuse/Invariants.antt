@@ -1,4 +1,0 @@
-use Rattle.analysis.proofs.usage.+exp_misuse.Given as goal
-
-abbrev pub decreases-exp_misuse : goal.decreases-exp_misuse
-decreases-exp_misuse l = l.i

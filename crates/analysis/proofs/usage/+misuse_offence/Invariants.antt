@@ -1,4 +1,0 @@
-use Rattle.analysis.proofs.usage.+misuse_offence.Given as goal
-
-abbrev pub decreases-misuse_offence : goal.decreases-misuse_offence
-decreases-misuse_offence l = l.i

@@ -1,0 +1,45 @@
+// The two tables of a text: what stands at a node, and what is known of the name that a word is.
+
+ghost use Rattle.std.specs.Prelude.{◌≡◌, List};
+ghost use Rattle.grammar.specs.Tree.{Name as NameTree};
+ghost use Rattle.parser.specs.Records.{View, Named};
+ghost use Rattle.symbols.specs.Symbols.{Symbol, kind_in, type_in};
+ghost use Rattle.analysis.specs.SymbolTable.{KindAt};
+ghost use Rattle.analysis.specs.NameLines.{LineFound};
+ghost use Rattle.analysis.specs.Tables.{Holds};
+
+use crate::lines::number_of;
+use crate::symbol::{NameKind, NameRecord};
+use parser::table::Record;
+use symbols::value_type::ValueType;
+
+// The work table of a text, and the lines of its name table.
+#[derive(Clone, Copy)]
+pub struct Tables<'a> {
+    pub records: &'a [Record],
+    pub names: &'a [NameRecord],
+}
+
+impl Tables<'_> {
+    // The line of the word's name.
+    fn line_of(&self, w: usize) -> Option<NameRecord>
+        ensures { (v : View) (ss : List Symbol) (x : NameTree) → Holds v self.now ss → Named v w x → LineFound v ss x.letters result }
+    {
+        self.names.get(number_of(self.records, w)).copied()
+    }
+
+    // What the word's name is.
+    pub fn kind_of(&self, w: usize) -> NameKind
+        ensures { (v : View) (ss : List Symbol) (x : NameTree) → Holds v self.now ss → Named v w x → KindAt v result (kind_in ss x.letters) }
+    {
+        self.line_of(w).map_or(NameKind::Variable, |line| line.kind)
+    }
+
+    // The type of the word's name.
+    pub fn type_of(&self, w: usize) -> ValueType
+        ensures { (v : View) (ss : List Symbol) (x : NameTree) → Holds v self.now ss → Named v w x → result ≡ type_in ss x.letters }
+    {
+        self.line_of(w)
+            .map_or(ValueType::Untyped, |line| line.value_type)
+    }
+}
