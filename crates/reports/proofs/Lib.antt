@@ -1,10 +1,7 @@
-pub mod Reasons
-pub mod WordLetters
-pub mod SettingSteps
+pub mod SettingLines
 pub mod SettingNumbers
 pub mod Carets
-pub mod Parts
 pub mod Spelled
-pub mod OtherNodes
 pub mod OutlineSteps
 pub mod AsciiLetters
+pub mod Writing

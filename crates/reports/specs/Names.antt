@@ -1,17 +1,13 @@
 -- The letters of the name that a word of a text is.
-use Rattle.std.specs.Prelude.{ℕ, List, [], ◌∷◌, slice_index_or}
+use Rattle.std.specs.Prelude.{ℕ, List}
 use Rattle.std.specs.Char.{encode_utf8}
 use Rattle.std.specs.List.{flat_map}
 use Rattle.parser.specs.declared.table.Record.{Record}
-use Rattle.analysis.specs.Letters.{letters_in}
-
-abbrev pub word_letters : List ℕ → List Record → List (List ℕ)
-word_letters text [] = []
-word_letters text (r ∷ rs) = letters_in text r.word ∷ word_letters text rs
+use Rattle.analysis.specs.Letters.{word_letters}
 
 -- A word past the table has none.
 abbrev pub name_letters : List ℕ → List Record → ℕ → List ℕ
-name_letters text rs w = slice_index_or (word_letters text rs) w []
+name_letters text rs w = word_letters text rs w
 
 -- They as text: each byte is the character of its code. Of a name's letters, which are ASCII, the text has just these bytes.
 abbrev pub letters_shown : List ℕ → List ℕ

@@ -1,6 +1,7 @@
 -- Which cell a setting names: a simple variable by its name alone, an array's element by the name and a subscript within
 -- the bounds. Letters stand for the first line that has them.
 use Rattle.std.specs.Prelude.{ℕ, ◌+◌, ◌-◌, ◌^◌, min, cond, ◌&&◌, List, [], ◌∷◌, ℤ, ◌-ℤ◌, Some, None, Ok, Err, codes, Option, Result, int_le}
+use Rattle.std.specs.List.{find}
 use Rattle.std.specs.Str.{bytes_eq}
 use Rattle.parser.specs.declared.table.Record.{Record}
 use Rattle.parser.specs.Records.{bound_in}
@@ -32,6 +33,10 @@ kind_setting c Variable k = variable_setting c k
 
 abbrev pub line_setting : NameRecord → Option ℤ → Result ℕ SettingError
 line_setting r k = kind_setting r.first r.kind k
+
+-- The first line of the name with these letters.
+abbrev pub line_named : List ℕ → List Record → List NameRecord → List ℕ → Option NameRecord
+line_named text rs lines x = find (λ (r : NameRecord). bytes_eq (name_letters text rs r.word) x) lines
 
 -- By the letters of the name.
 abbrev pub name_setting : List ℕ → List Record → List NameRecord → List ℕ → Option ℤ → Result ℕ SettingError

@@ -1,13 +1,17 @@
 // A place of a text for people: its line and column, the line of text, and a caret under the place.
 
-ghost use Rattle.std.specs.Prelude.{◌≡◌, ◌≤◌, ◌++◌, [], cond, codes, drop, take, IfOk, OnOk};
+ghost use Rattle.std.specs.Prelude.{◌≡◌, ◌≤◌, ◌-◌, [], cond, drop, take, Some};
 ghost use Rattle.std.specs.List.{flat_map};
-ghost use Rattle.std.specs.String.{string_bytes};
-ghost use Rattle.reports.specs.Excerpts.{blanks_for, byte_number, caret_line, CaretLawOf, excerpt_of, refusal_of, shown_byte, shown_line, words_of_place};
+ghost use Rattle.reading.specs.Refusal.{number, place as refusal_place};
+ghost use Rattle.reports.specs.Excerpts.{blanks_for, CaretLawOf, excerpt_of, part_of, refusal_of, shown_byte, words_of_place};
+ghost use Rattle.reports.specs.Reasons.{reason_of};
 ghost use Rattle.reports.specs.Windows.{window_of, WindowLaw};
 
-use places::{Location, locate};
-use std::alloc::{AllocError, Global};
+use crate::part::part;
+use crate::worded::Worded;
+use places::locate;
+use reading::refusal::TextRefusal;
+use std::fmt;
 
 // The part of a line that is shown: the bytes from `from` up to `to`.
 #[derive(Clone, Copy)]
@@ -32,141 +36,153 @@ fn window_at(start: usize, end: usize, place: usize) -> Window
     Window { from, to }
 }
 
-// A byte by its number.
-fn number_of_byte(heap: Global, byte: u8) -> Result<String, AllocError>
-    ensures { IfOk result (λ s. string_bytes s ≡ byte_number byte) }
-{
-    format!(in heap; "\\x{byte:02x}")
-}
-
 // Printable ASCII as it stands, any other byte by its number.
-fn push_byte(heap: Global, out: &mut String, byte: u8) -> Result<(), AllocError>
-    ensures { OnOk result (string_bytes out.new ≡ string_bytes out.old ++ shown_byte byte) }
-{
-    match byte {
-        b' '..=b'~' => out.push(char::from(byte)),
-        _ => {
-            let number = number_of_byte(heap, byte)?;
-            out.push_str(number.as_str())
+#[derive(Clone, Copy)]
+struct Shown(u8);
+
+impl fmt::Display for Shown {
+    ghost output = { λ b. Some (shown_byte b.0) };
+
+    fn fmt<W: fmt::Write>(&self, f: &mut fmt::Formatter<W>) -> fmt::Result {
+        match self.0 {
+            byte @ b' '..=b'~' => f.write_char(char::from(byte)),
+            byte => write!(f, "\\x{byte:02x}"),
         }
     }
 }
 
-// As many blanks as `push_byte` writes characters.
-fn push_blanks(out: &mut String, byte: u8) -> Result<(), AllocError>
-    ensures { OnOk result (string_bytes out.new ≡ string_bytes out.old ++ blanks_for byte) }
-{
-    match byte {
-        b' '..=b'~' => out.push(' '),
-        _ => out.push_str("    "),
+// As many blanks as `Shown` writes characters.
+#[derive(Clone, Copy)]
+struct Blanks(u8);
+
+impl fmt::Display for Blanks {
+    ghost output = { λ b. Some (blanks_for b.0) };
+
+    fn fmt<W: fmt::Write>(&self, f: &mut fmt::Formatter<W>) -> fmt::Result {
+        f.write_str(match self.0 {
+            b' '..=b'~' => " ",
+            _ => "    ",
+        })
     }
-}
-
-// As many bytes from a place on, or as many as there are.
-fn bytes_from(text: &[u8], from: usize, count: usize) -> &[u8]
-    ensures { result.now ≡ take count (drop from text.now) }
-{
-    let start = from.min(text.len());
-    let rest = text.len() - start;
-    &text[start..start + count.min(rest)]
-}
-
-// These words, where a line is cut off.
-fn push_where(out: &mut String, is_cut: bool, words: &str) -> Result<(), AllocError>
-    ensures { OnOk result (string_bytes out.new ≡ string_bytes out.old ++ cond is_cut words.now []) }
-{
-    if is_cut { out.push_str(words) } else { Ok(()) }
 }
 
 // Each byte as it is shown.
-fn push_bytes(heap: Global, out: &mut String, bytes: &[u8]) -> Result<(), AllocError>
-    ensures { OnOk result (string_bytes out.new ≡ string_bytes out.old ++ flat_map shown_byte bytes.now) }
-{
-    for b in bytes {
-        push_byte(heap, out, *b)?;
+#[derive(Clone, Copy)]
+struct ShownBytes<'a>(&'a [u8]);
+
+impl fmt::Display for ShownBytes<'_> {
+    ghost output = { λ l. Some (flat_map shown_byte l.0.now) };
+
+    fn fmt<W: fmt::Write>(&self, f: &mut fmt::Formatter<W>) -> fmt::Result {
+        for byte in self.0 {
+            write!(f, "{}", Shown(*byte))?;
+        }
+        Ok(())
     }
-    Ok(())
 }
 
 // Each byte's blanks.
-fn push_all_blanks(out: &mut String, bytes: &[u8]) -> Result<(), AllocError>
-    ensures { OnOk result (string_bytes out.new ≡ string_bytes out.old ++ flat_map blanks_for bytes.now) }
-{
-    for b in bytes {
-        push_blanks(out, *b)?;
+#[derive(Clone, Copy)]
+struct BlankBytes<'a>(&'a [u8]);
+
+impl fmt::Display for BlankBytes<'_> {
+    ghost output = { λ l. Some (flat_map blanks_for l.0.now) };
+
+    fn fmt<W: fmt::Write>(&self, f: &mut fmt::Formatter<W>) -> fmt::Result {
+        for byte in self.0 {
+            write!(f, "{}", Blanks(*byte))?;
+        }
+        Ok(())
     }
-    Ok(())
 }
 
-// The line of a place, with `...` where it is cut off.
-fn push_line(
-    heap: Global,
-    out: &mut String,
-    text: &[u8],
-    line: Location,
-    shown: Window,
-) -> Result<(), AllocError>
-    ensures { OnOk result (string_bytes out.new ≡ string_bytes out.old ++ shown_line text.now line shown) }
+// The words where they are to be shown, else none.
+fn only_if(is_shown: bool, words: &str) -> &str
+    ensures { result.now ≡ cond is_shown words.now [] }
 {
-    push_where(out, line.start < shown.from, "...")?;
-    let length = shown.to.saturating_sub(shown.from);
-    push_bytes(heap, out, bytes_from(text, shown.from, length))?;
-    push_where(out, shown.to < line.end, "...")?;
-    out.push('\n')
+    if is_shown { words } else { "" }
 }
 
-// A caret under the byte at `place`.
-fn push_caret(
-    out: &mut String,
-    text: &[u8],
-    line: Location,
-    shown: Window,
-    place: usize,
-) -> Result<(), AllocError>
-    ensures { OnOk result (string_bytes out.new ≡ string_bytes out.old ++ caret_line text.now line shown place) }
+// The bytes of a text from one place up to another.
+fn between(text: &[u8], from: usize, to: usize) -> &[u8]
+    ensures { result.now ≡ part_of text.now from to }
 {
-    push_where(out, line.start < shown.from, "   ")?;
-    let length = place.saturating_sub(shown.from);
-    push_all_blanks(out, bytes_from(text, shown.from, length))?;
-    out.push_str("^\n")
+    part(text, from, to.saturating_sub(from))
 }
 
-// The line of text of a place and the caret's line, indented.
-pub fn excerpt(heap: Global, text: &[u8], place: usize) -> Result<String, AllocError>
-    ensures is { IfOk result (λ s. string_bytes s ≡ excerpt_of text.now place) }
-    ensures law { IfOk result (λ s. CaretLawOf text.now place) }
-{
-    let place = place.min(text.len());
-    let line = locate(text, place);
-    let shown = window_at(line.start, line.end, place);
-    let mut out = String::from_str(heap, "  ")?;
-    push_line(heap, &mut out, text, line, shown)?;
-    out.push_str("  ")?;
-    push_caret(&mut out, text, line, shown, place)?;
-    Ok(out)
+// A place of a text, told by its byte's number, its line and its column.
+#[derive(Clone, Copy)]
+pub struct Place<'a> {
+    pub text: &'a [u8],
+    pub byte: usize,
 }
 
-// A place by its byte's number, its line and its column.
-pub fn place_words(heap: Global, text: &[u8], place: usize) -> Result<String, AllocError>
-    ensures { IfOk result (λ s. string_bytes s ≡ words_of_place text.now place) }
-{
-    let location = locate(text, place);
-    let line = location.line;
-    let column = location.column;
-    format!(in heap; "byte {place} (line {line}, column {column})")
+impl<'a> Place<'a> {
+    // The line of text of the place and the caret's line.
+    pub fn excerpt(self) -> Excerpt<'a>
+        ensures text { result.place.text.now ≡ self.entry.text.now }
+        ensures byte { result.place.byte ≡ self.entry.byte }
+        ensures law { CaretLawOf result.place.text.now result.place.byte }
+    {
+        Excerpt { place: self }
+    }
+}
+
+impl fmt::Display for Place<'_> {
+    ghost output = { λ p. Some (words_of_place p.text.now p.byte) };
+
+    fn fmt<W: fmt::Write>(&self, f: &mut fmt::Formatter<W>) -> fmt::Result {
+        let byte = self.byte;
+        let location = locate(self.text, byte);
+        let line = location.line;
+        let column = location.column;
+        write!(f, "byte {byte} (line {line}, column {column})")
+    }
+}
+
+// The line of a place, with `...` where it is cut off, and below it a caret under the place, both indented.
+#[derive(Clone, Copy)]
+pub struct Excerpt<'a> {
+    pub place: Place<'a>,
+}
+
+impl fmt::Display for Excerpt<'_> {
+    ghost output = { λ e. Some (excerpt_of e.place.text.now e.place.byte) };
+
+    fn fmt<W: fmt::Write>(&self, f: &mut fmt::Formatter<W>) -> fmt::Result {
+        let text = self.place.text;
+        let place = self.place.byte.min(text.len());
+        let line = locate(text, place);
+        let shown = window_at(line.start, line.end, place);
+        let is_cut = line.start < shown.from;
+        let left = only_if(is_cut, "...");
+        let words = ShownBytes(between(text, shown.from, shown.to));
+        let right = only_if(shown.to < line.end, "...");
+        write!(f, "  {left}{words}{right}\n")?;
+        let left = only_if(is_cut, "   ");
+        let blanks = BlankBytes(between(text, shown.from, place));
+        write!(f, "  {left}{blanks}^\n")
+    }
 }
 
 // A text's refusal: number, place and reason, and the line with its caret.
-pub fn refusal(
-    heap: Global,
-    text: &[u8],
-    number: u8,
-    place: usize,
-    reason: &str,
-) -> Result<String, AllocError>
-    ensures { IfOk result (λ s. string_bytes s ≡ refusal_of text.now number place reason.now) }
-{
-    let told = place_words(heap, text, place)?;
-    let shown = excerpt(heap, text, place)?;
-    format!(in heap; "refused {number} at {told}: {reason}\n{shown}")
+#[derive(Clone, Copy)]
+pub struct Refused<'a> {
+    pub text: &'a [u8],
+    pub refusal: TextRefusal,
+}
+
+impl fmt::Display for Refused<'_> {
+    ghost output = { λ r. Some (refusal_of r.text.now (number r.refusal) (refusal_place r.refusal) (reason_of (number r.refusal))) };
+
+    fn fmt<W: fmt::Write>(&self, f: &mut fmt::Formatter<W>) -> fmt::Result {
+        let place = Place {
+            text: self.text,
+            byte: self.refusal.place(),
+        };
+        let number = self.refusal.number();
+        let reason = self.refusal.wording();
+        let excerpt = place.excerpt();
+        write!(f, "refused {number} at {place}: {reason}\n{excerpt}")
+    }
 }

@@ -6,8 +6,10 @@
 pub mod caption;
 pub mod cells;
 pub mod excerpt;
-pub mod names;
+mod part;
 pub mod reason;
 pub mod settings;
+pub mod source;
 pub mod symbol_table;
 pub mod tree;
+pub mod worded;

@@ -1,18 +1,21 @@
 // Settings: a figure for a named cell, as a person writes it, `x=3` or `a[-2]=7`.
 
-ghost use Rattle.std.specs.Prelude.{◌≡◌, Ok, Err, IfOk, MatchResult};
+ghost use Rattle.std.specs.Prelude.{◌≡◌, Ok, Err, Some, IfOk, MatchResult};
 ghost use Rattle.std.specs.Str.{bytes_eq};
 ghost use Rattle.reports.specs.Names.{name_letters};
 ghost use Rattle.reports.specs.SettingWords.{setting_cell, setting_figure, subscript_of, word_setting};
-ghost use Rattle.reports.specs.Settings.{line_setting, name_setting, setting_error};
+ghost use Rattle.reports.specs.Settings.{line_named, line_setting, name_setting, setting_error};
 
-use crate::cells::bound_number;
-use crate::names::letters_of;
+use crate::source::Source;
+use crate::symbol_table::SymbolTable;
+use crate::worded::Worded;
+use analysis::bounds::value;
 use analysis::symbol::{NameKind, NameRecord};
-use parser::table::Record;
+use std::error::Error;
+use std::fmt;
 
 // What is wrong with a setting.
-#[derive(Clone, Copy, PartialEq, Debug)]
+#[derive(Clone, Copy, PartialEq, Eq, Debug)]
 pub enum SettingError {
     // It has no `=`.
     NoFigure,
@@ -30,11 +33,10 @@ pub enum SettingError {
     Outside,
 }
 
-impl SettingError {
-    // The same, for the reader of a report.
-    pub fn reason(self) -> &'static str
-        ensures { result.now ≡ setting_error self }
-    {
+impl Worded for SettingError {
+    ghost wording = { setting_error };
+
+    fn wording(self) -> &'static str {
         match self {
             SettingError::NoFigure => "a setting is NAME=FIGURE or NAME[SUBSCRIPT]=FIGURE",
             SettingError::NoSuchName => "the text has no such name",
@@ -47,56 +49,41 @@ impl SettingError {
     }
 }
 
+impl fmt::Display for SettingError {
+    ghost output = { λ e. Some (setting_error e) };
+
+    fn fmt<W: fmt::Write>(&self, f: &mut fmt::Formatter<W>) -> fmt::Result {
+        f.write_str(self.wording())
+    }
+}
+
+impl Error for SettingError {}
+
 // The cell that a line of the symbol table has for a subscript, or without one.
 pub fn cell_of_line(line: NameRecord, subscript: Option<i64>) -> Result<usize, SettingError>
     ensures { result ≡ line_setting line subscript }
 {
-    match line.kind {
-        NameKind::Label => Err(SettingError::NoCells),
-        NameKind::Switch(_) => Err(SettingError::NoCells),
-        NameKind::Array(low, high) => match subscript {
-            None => Err(SettingError::NoSubscript),
-            Some(k) => {
-                let least = bound_number(low);
-                let most = bound_number(high);
-                if least <= k && k <= most {
-                    let past = (k - least) as usize;
-                    Ok(line.first.saturating_add(past))
-                } else {
-                    Err(SettingError::Outside)
-                }
+    match (line.kind, subscript) {
+        (NameKind::Label | NameKind::Switch(_), _) => Err(SettingError::NoCells),
+        (NameKind::Array(_, _), None) => Err(SettingError::NoSubscript),
+        (NameKind::Array(low, high), Some(k)) => {
+            let least = value(low);
+            if least <= k && k <= value(high) {
+                Ok(line.first.saturating_add((k - least) as usize))
+            } else {
+                Err(SettingError::Outside)
             }
-        },
-        NameKind::Variable => match subscript {
-            None => Ok(line.first),
-            Some(_) => Err(SettingError::NoArray),
-        },
+        }
+        (NameKind::Variable, None) => Ok(line.first),
+        (NameKind::Variable, Some(_)) => Err(SettingError::NoArray),
     }
 }
 
 // Does the name of the word w have these letters?
-fn has_letters(text: &[u8], records: &[Record], w: usize, name: &[u8]) -> bool
-    ensures { result ≡ bytes_eq (name_letters text.now records.now w) name.now }
+fn has_letters(source: Source, w: usize, name: &[u8]) -> bool
+    ensures { result ≡ bytes_eq (name_letters source.entry.text.now source.entry.records.now w) name.now }
 {
-    letters_of(text, records, w) == name
-}
-
-// The cell of the name with these letters.
-pub fn cell_of_name(
-    text: &[u8],
-    records: &[Record],
-    lines: &[NameRecord],
-    name: &[u8],
-    subscript: Option<i64>,
-) -> Result<usize, SettingError>
-    ensures { result ≡ name_setting text.now records.now lines.now name.now subscript }
-{
-    for i in 0..lines.len() {
-        if has_letters(text, records, lines[i].word, name) {
-            return cell_of_line(lines[i], subscript);
-        }
-    }
-    Err(SettingError::NoSuchName)
+    source.name(w).letters == name
 }
 
 // A subscript with the bracket that closes it.
@@ -106,39 +93,46 @@ fn subscript_in(word: &str) -> Option<i64>
     word.strip_suffix(']')?.parse::<i64>().ok()
 }
 
-// The cell that `NAME` or `NAME[SUBSCRIPT]` names.
-pub fn cell_of_word(
-    text: &[u8],
-    records: &[Record],
-    lines: &[NameRecord],
-    word: &str,
-) -> Result<usize, SettingError>
-    ensures { result ≡ word_setting text.now records.now lines.now word.now }
-{
-    match word.split_once('[') {
-        None => cell_of_name(text, records, lines, word.as_bytes(), None),
-        Some((name, rest)) => match subscript_in(rest) {
-            Some(k) => cell_of_name(text, records, lines, name.as_bytes(), Some(k)),
-            None => Err(SettingError::BadSubscript),
-        },
+impl SymbolTable<'_> {
+    // The first line of the name with these letters.
+    fn line_of(self, name: &[u8]) -> Option<NameRecord>
+        ensures { result ≡ line_named self.entry.source.text.now self.entry.source.records.now self.entry.lines.now name.now }
+    {
+        let source = self.source;
+        self.lines
+            .iter()
+            .copied()
+            .find(|line| has_letters(source, line.word, name))
     }
-}
 
-// The cell and the figure's words of a setting.
-pub fn read_setting<'a>(
-    text: &[u8],
-    records: &[Record],
-    lines: &[NameRecord],
-    word: &'a str,
-) -> Result<(usize, &'a str), SettingError>
-    ensures cell { MatchResult result (λ x. setting_cell text.now records.now lines.now word.now ≡ Ok x.0) (λ e. setting_cell text.now records.now lines.now word.now ≡ Err e) }
-    ensures figure { IfOk result (λ x. x.1.now ≡ setting_figure word.now) }
-{
-    match word.split_once('=') {
-        None => Err(SettingError::NoFigure),
-        Some((target, figure)) => match cell_of_word(text, records, lines, target) {
-            Ok(cell) => Ok((cell, figure)),
-            Err(error) => Err(error),
-        },
+    // The cell of the name with these letters.
+    pub fn cell_of_name(self, name: &[u8], subscript: Option<i64>) -> Result<usize, SettingError>
+        ensures { result ≡ name_setting self.entry.source.text.now self.entry.source.records.now self.entry.lines.now name.now subscript }
+    {
+        let line = self.line_of(name).ok_or(SettingError::NoSuchName)?;
+        cell_of_line(line, subscript)
+    }
+
+    // The cell that `NAME` or `NAME[SUBSCRIPT]` names.
+    pub fn cell_of_word(self, word: &str) -> Result<usize, SettingError>
+        ensures { result ≡ word_setting self.entry.source.text.now self.entry.source.records.now self.entry.lines.now word.now }
+    {
+        match word.split_once('[') {
+            None => self.cell_of_name(word.as_bytes(), None),
+            Some((name, rest)) => {
+                let subscript = subscript_in(rest).ok_or(SettingError::BadSubscript)?;
+                self.cell_of_name(name.as_bytes(), Some(subscript))
+            }
+        }
+    }
+
+    // The cell and the figure's words of a setting.
+    pub fn read_setting(self, word: &str) -> Result<(usize, &str), SettingError>
+        ensures cell { MatchResult result (λ x. setting_cell self.entry.source.text.now self.entry.source.records.now self.entry.lines.now word.now ≡ Ok x.0) (λ e. setting_cell self.entry.source.text.now self.entry.source.records.now self.entry.lines.now word.now ≡ Err e) }
+        ensures figure { IfOk result (λ x. x.1.now ≡ setting_figure word.now) }
+    {
+        let (target, figure) = word.split_once('=').ok_or(SettingError::NoFigure)?;
+        let cell = self.cell_of_word(target)?;
+        Ok((cell, figure))
     }
 }

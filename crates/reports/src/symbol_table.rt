@@ -1,85 +1,88 @@
 // The symbol table of a text, a line for each name, in columns.
 
-ghost use Rattle.std.specs.Prelude.{◌≡◌, IfOk};
+ghost use Rattle.std.specs.Prelude.{◌≡◌, IfOk, Some};
 ghost use Rattle.std.specs.String.{string_bytes};
-ghost use Rattle.reports.specs.Cells.{line_cells};
 ghost use Rattle.reports.specs.SymbolLines.{kind_shown, type_shown, cells_shown, symbol_shown, table_shown};
 
-use crate::cells::cells_of;
-use crate::names::name_text;
+use crate::cells::{Cells, cells_of};
+use crate::source::Source;
+use crate::worded::Worded;
 use analysis::symbol::{NameKind, NameRecord};
-use parser::table::Record;
 use std::alloc::{AllocError, Global};
+use std::fmt;
 use symbols::value_type::ValueType;
 
-fn kind_text(kind: NameKind) -> &'static str
-    ensures { result.now ≡ kind_shown kind }
-{
-    match kind {
-        NameKind::Label => "label",
-        NameKind::Switch(_) => "switch",
-        NameKind::Array(_, _) => "array",
-        NameKind::Variable => "variable",
-    }
-}
+impl Worded for NameKind {
+    ghost wording = { kind_shown };
 
-fn type_text(value_type: ValueType) -> &'static str
-    ensures { result.now ≡ type_shown value_type }
-{
-    match value_type {
-        ValueType::Untyped => "none",
-        ValueType::Integer => "integer",
-        ValueType::Boolean => "boolean",
-    }
-}
-
-// First cell, count and low bound; of a name without cells, dashes.
-fn cells_text(heap: Global, line: NameRecord) -> Result<String, AllocError>
-    ensures { IfOk result (λ s. string_bytes s ≡ cells_shown (line_cells line)) }
-{
-    match cells_of(line) {
-        Some(cells) => {
-            let first = cells.first;
-            let count = cells.count;
-            let low = cells.low;
-            format!(in heap; "{first:>5}  {count:>5}  {low:>5}")
+    fn wording(self) -> &'static str {
+        match self {
+            NameKind::Label => "label",
+            NameKind::Switch(_) => "switch",
+            NameKind::Array(_, _) => "array",
+            NameKind::Variable => "variable",
         }
-        None => format!(in heap; "{:>5}  {:>5}  {:>5}", "-", 0, "-"),
+    }
+}
+
+impl Worded for ValueType {
+    ghost wording = { type_shown };
+
+    fn wording(self) -> &'static str {
+        match self {
+            ValueType::Untyped => "none",
+            ValueType::Integer => "integer",
+            ValueType::Boolean => "boolean",
+        }
+    }
+}
+
+// First cell, count and low bound in columns; of a name without cells, dashes.
+#[derive(Clone, Copy)]
+struct CellColumns(Option<Cells>);
+
+impl fmt::Display for CellColumns {
+    ghost output = { λ c. Some (cells_shown c.0) };
+
+    fn fmt<W: fmt::Write>(&self, f: &mut fmt::Formatter<W>) -> fmt::Result {
+        match self.0 {
+            Some(Cells { first, count, low }) => write!(f, "{first:>5}  {count:>5}  {low:>5}"),
+            None => write!(f, "{:>5}  {:>5}  {:>5}", "-", 0, "-"),
+        }
+    }
+}
+
+// The lines of a source's names.
+#[derive(Clone, Copy)]
+pub struct SymbolTable<'a> {
+    pub source: Source<'a>,
+    pub lines: &'a [NameRecord],
+}
+
+impl SymbolTable<'_> {
+    // The heads of the columns, and the lines.
+    pub fn columns(self, heap: Global) -> Result<String, AllocError>
+        ensures { IfOk result (λ s. string_bytes s ≡ table_shown self.entry.source.text.now self.entry.source.records.now self.entry.lines.now) }
+    {
+        let mut out = format!(in heap;
+            "{:<16}  {:<8}  {:<7}  {:>5}  {:>5}  {:>5}\n",
+            "name", "kind", "type", "first", "count", "low"
+        )?;
+        for line in self.lines {
+            let words = symbol_line(heap, self.source, *line)?;
+            out.push_str(words.as_str())?;
+        }
+        Ok(out)
     }
 }
 
 // A line of the table in words: name, kind, type, first cell, count of cells, low bound.
-pub fn symbol_line(
-    heap: Global,
-    text: &[u8],
-    records: &[Record],
-    line: NameRecord,
-) -> Result<String, AllocError>
-    ensures { IfOk result (λ s. string_bytes s ≡ symbol_shown text.now records.now line) }
+pub fn symbol_line(heap: Global, source: Source, line: NameRecord) -> Result<String, AllocError>
+    ensures { IfOk result (λ s. string_bytes s ≡ symbol_shown source.entry.text.now source.entry.records.now line) }
 {
-    let name = name_text(heap, text, records, line.word)?;
-    let kind = kind_text(line.kind);
-    let value_type = type_text(line.value_type);
-    let cells = cells_text(heap, line)?;
+    let name = source.name_text(heap, line.word)?;
+    let kind = line.kind.wording();
+    let value_type = line.value_type.wording();
+    let cells = CellColumns(cells_of(line));
     format!(in heap; "{name:<16}  {kind:<8}  {value_type:<7}  {cells}\n")
-}
-
-// The heads of the columns, and the lines.
-pub fn symbol_table(
-    heap: Global,
-    text: &[u8],
-    records: &[Record],
-    lines: &[NameRecord],
-) -> Result<String, AllocError>
-    ensures { IfOk result (λ s. string_bytes s ≡ table_shown text.now records.now lines.now) }
-{
-    let mut out = format!(in heap;
-        "{:<16}  {:<8}  {:<7}  {:>5}  {:>5}  {:>5}\n",
-        "name", "kind", "type", "first", "count", "low"
-    )?;
-    for line in lines {
-        let words = symbol_line(heap, text, records, *line)?;
-        out.push_str(words.as_str())?;
-    }
-    Ok(out)
 }

@@ -1,15 +1,16 @@
 // The lines of a tree.
 
-ghost use Rattle.std.specs.Prelude.{◌≡◌, ◌++◌, length, IfOk};
+ghost use Rattle.std.specs.Prelude.{◌≡◌, ◌*◌, ◌++◌, length, replicate, IfOk, Some};
 ghost use Rattle.std.specs.List.{filter_map};
 ghost use Rattle.std.specs.String.{string_bytes};
-ghost use Rattle.reports.specs.Outlines.{parts_of, outline_line, outline_of, OutlineLaw};
+ghost use Rattle.reports.specs.Outlines.{parts_of, outline_of, OutlineLaw};
 
-use crate::caption::caption;
+use crate::caption::Caption;
+use crate::source::Source;
 use analysis::tree::node_of;
 use parser::node::Node;
-use parser::table::Record;
-use std::alloc::{AllocError, Global};
+use std::alloc::AllocError;
+use std::fmt;
 
 // The parts of a node, in the order of the text.
 fn parts(node: Node) -> [Option<usize>; 3]
@@ -40,42 +41,37 @@ fn parts(node: Node) -> [Option<usize>; 3]
     }
 }
 
-// Adds a line, indented by depth.
-fn push_line(out: &mut String, depth: usize, words: &str) -> Result<(), AllocError>
-    ensures { IfOk result (λ u. string_bytes out.new ≡ string_bytes out.old ++ outline_line depth words.now) }
-{
-    for _level in 0..depth {
-        out.push_str("  ")?;
+// Two blanks for each level.
+#[derive(Clone, Copy)]
+struct Indent(usize);
+
+impl fmt::Display for Indent {
+    ghost output = { λ d. Some (replicate (2 * d.0) 32) };
+
+    fn fmt<W: fmt::Write>(&self, f: &mut fmt::Formatter<W>) -> fmt::Result {
+        f.write_repeated("  ", self.0)
     }
-    out.push_str(words)?;
-    out.push('\n')
 }
 
-// The lines of the tree at node i, indented by depth. The parts of a row stand side by side.
+// Adds the lines of the tree at node i, indented by depth. The parts of a row stand side by side.
 #[tactic(auto, using(crate::proofs::OutlineSteps::outline_step))]
-pub fn outline(
-    heap: Global,
-    out: &mut String,
-    text: &[u8],
-    records: &[Record],
-    i: usize,
-    depth: usize,
-) -> Result<(), AllocError>
-    ensures law { OutlineLaw text.now records.now }
-    ensures lines { IfOk result (λ u. string_bytes out.new ≡ string_bytes out.old ++ outline_of text.now records.now depth i) }
+pub fn outline(out: &mut String, source: Source, i: usize, depth: usize) -> Result<(), AllocError>
+    ensures law { OutlineLaw source.entry.text.now source.entry.records.now }
+    ensures lines { IfOk result (λ u. string_bytes out.new ≡ string_bytes out.old ++ outline_of source.entry.text.now source.entry.records.now depth i) }
 {
-    let node = node_of(records, i);
+    let node = node_of(source.records, i);
     let mut below = depth;
     if !matches!(node, Node::More(_, _)) {
-        let words = caption(heap, text, records, node)?;
-        push_line(out, depth, words.as_str())?;
+        let indent = Indent(depth);
+        let caption = Caption { source, node };
+        write!(out, "{indent}{caption}\n")?;
         below = depth.saturating_add(1);
     }
     for part in parts(node) {
-        if let Some(p) = part {
-            if p < i {
-                outline(heap, out, text, records, p, below)?;
-            }
+        if let Some(p) = part
+            && p < i
+        {
+            outline(out, source, p, below)?;
         }
     }
     Ok(())

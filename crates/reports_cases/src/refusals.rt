@@ -1,11 +1,24 @@
 // Refusals of texts, as people read them.
 
-use reports::excerpt::refusal;
-use reports::reason::reason;
+use analysis::offence::Broken;
+use grammar::refusal::SentenceRefusal;
+use parser::refusal::{ParseRefusal, Refusal as RefusedSentence};
+use reading::refusal::TextRefusal;
+use reports::excerpt::Refused;
 use std::test::Fail;
+use symbols::refusal::NameRefusal;
+use words::refusal::{Refusal as RefusedWord, WordRefusal};
+
+#[derive(Clone, Copy)]
+enum Reason {
+    Word(WordRefusal),
+    Sentence(SentenceRefusal),
+    Name(NameRefusal),
+}
 
 struct Case {
     text: &'static [u8],
+    reason: Reason,
     number: u8,
     place: usize,
     shown: &'static str,
@@ -14,6 +27,7 @@ struct Case {
 const CASES: [Case; 7] = [
     Case {
         text: b"x := 1 # 2",
+        reason: Reason::Word(WordRefusal::NoWord),
         number: 2,
         place: 7,
         shown: "refused 2 at byte 7 (line 1, column 8): no word begins with this byte
@@ -24,6 +38,7 @@ const CASES: [Case; 7] = [
     // An early end is told behind the last byte.
     Case {
         text: b"x := 1 +",
+        reason: Reason::Sentence(SentenceRefusal::Unexpected),
         number: 5,
         place: 8,
         shown: "refused 5 at byte 8 (line 1, column 9): the text cannot go on with this, or ends too early
@@ -34,6 +49,7 @@ const CASES: [Case; 7] = [
     // The second of three lines.
     Case {
         text: b"x := 1;\na: a: stop;\ny := 2",
+        reason: Reason::Name(NameRefusal::SecondDefinition),
         number: 7,
         place: 11,
         shown: "refused 7 at byte 11 (line 2, column 4): a name is defined once and has at most one type; a label or a switch has none
@@ -44,6 +60,7 @@ const CASES: [Case; 7] = [
     // Bytes that are not printable take four columns.
     Case {
         text: b"x\t:= \xc3\xa9",
+        reason: Reason::Word(WordRefusal::NoWord),
         number: 2,
         place: 5,
         shown: "refused 2 at byte 5 (line 1, column 6): no word begins with this byte
@@ -54,6 +71,7 @@ const CASES: [Case; 7] = [
     // An empty line.
     Case {
         text: b"x := 1;\n\n",
+        reason: Reason::Sentence(SentenceRefusal::Unexpected),
         number: 5,
         place: 8,
         shown: "refused 5 at byte 8 (line 2, column 1): the text cannot go on with this, or ends too early
@@ -64,6 +82,7 @@ const CASES: [Case; 7] = [
     // A long line is cut at both ends, or at one.
     Case {
         text: b"a1234567890123456789b1234567890123456789c1234567890123456789d1234567890123456789e1234567890123456789f1234567890123456789",
+        reason: Reason::Word(WordRefusal::WordTooLong),
         number: 3,
         place: 60,
         shown: "refused 3 at byte 60 (line 1, column 61): a name has at most 16 letters and digits, a number at most 9 digits
@@ -73,6 +92,7 @@ const CASES: [Case; 7] = [
     },
     Case {
         text: b"a1234567890123456789b1234567890123456789c1234567890123456789d1234567890123456789",
+        reason: Reason::Word(WordRefusal::WordTooLong),
         number: 3,
         place: 0,
         shown: "refused 3 at byte 0 (line 1, column 1): a name has at most 16 letters and digits, a number at most 9 digits
@@ -82,16 +102,30 @@ const CASES: [Case; 7] = [
     },
 ];
 
+// The refusal for a reason, told at this byte.
+fn refusal_at(reason: Reason, place: usize) -> TextRefusal {
+    match reason {
+        Reason::Word(reason) => {
+            TextRefusal::Sentence(ParseRefusal::Word(RefusedWord { reason, place }))
+        }
+        Reason::Sentence(reason) => {
+            TextRefusal::Sentence(ParseRefusal::Sentence(RefusedSentence { reason, place }))
+        }
+        Reason::Name(rule) => TextRefusal::Names(Broken { rule, place }),
+    }
+}
+
 #[test]
 fn refusals_shown(rt: HostRuntime) -> Result<(), Fail> {
     for case in CASES.iter() {
-        let shown = refusal(
-            rt.alloc(),
-            case.text,
-            case.number,
-            case.place,
-            reason(case.number),
-        )?;
+        let refusal = refusal_at(case.reason, case.place);
+        assert_eq!(rt; refusal.number(), case.number);
+        assert_eq!(rt; refusal.place(), case.place);
+        let refused = Refused {
+            text: case.text,
+            refusal,
+        };
+        let shown = refused.to_string(rt.alloc())?;
         assert_eq!(rt; shown.as_str(), case.shown);
     }
     Ok(())

@@ -1,30 +1,30 @@
 // Settings, and the cells and figures that they name.
 
-use crate::text::{TEXT, lines, records};
-use reports::settings::{SettingError, read_setting};
+use crate::text::{lines, records, table};
+use reports::settings::SettingError;
 
 struct Case {
     word: &'static str,
-    answer: Result<usize, SettingError>,
+    answer: Result<(usize, &'static str), SettingError>,
 }
 
 const CASES: [Case; 18] = [
     Case {
         word: "x=3",
-        answer: Ok(5),
+        answer: Ok((5, "3")),
     },
     Case {
         word: "done=1",
-        answer: Ok(4),
+        answer: Ok((4, "1")),
     },
     // The lowest subscript has the first cell.
     Case {
         word: "rate[-2]=3",
-        answer: Ok(0),
+        answer: Ok((0, "3")),
     },
     Case {
         word: "rate[1]=3",
-        answer: Ok(3),
+        answer: Ok((3, "3")),
     },
     Case {
         word: "rate[-3]=3",
@@ -87,13 +87,10 @@ const CASES: [Case; 18] = [
 
 #[test]
 fn cells_of_settings(rt: HostRuntime) {
+    let records = records();
+    let lines = lines();
+    let table = table(&records, &lines);
     for case in CASES.iter() {
-        match read_setting(TEXT, &records(), &lines(), case.word) {
-            Ok((cell, figure)) => {
-                assert_eq!(rt; case.answer, Ok(cell), "{}", case.word);
-                assert!(rt; figure == "3" || figure == "1");
-            }
-            Err(error) => assert_eq!(rt; case.answer, Err(error), "{}", case.word),
-        }
+        assert_eq!(rt; table.read_setting(case.word), case.answer, "{}", case.word);
     }
 }

@@ -1,8 +1,7 @@
 // The symbol table in columns, and the names of cells.
 
-use crate::text::{TEXT, lines, records};
-use reports::cells::{cell_label, cells_of, figures_of};
-use reports::symbol_table::symbol_table;
+use crate::text::{lines, records, table};
+use reports::cells::{CellLabel, cells_of, figures_of};
 use std::test::Fail;
 
 const TABLE: &str = "name              kind      type     first  count    low
@@ -15,7 +14,7 @@ x                 variable  integer      5      1      0
 
 #[test]
 fn columns(rt: HostRuntime) -> Result<(), Fail> {
-    let shown = symbol_table(rt.alloc(), TEXT, &records(), &lines())?;
+    let shown = table(&records(), &lines()).columns(rt.alloc())?;
     assert_eq!(rt; shown.as_str(), TABLE);
     Ok(())
 }
@@ -24,16 +23,21 @@ const CELLS: &str = "rate[-2] = 10, rate[-1] = 11, rate[0] = 12, rate[1] = 13, d
 
 #[test]
 fn labels(rt: HostRuntime) -> Result<(), Fail> {
+    let records = records();
+    let lines = lines();
+    let source = table(&records, &lines).source;
     let figures = [10, 11, 12, 13, 14, 15, 99];
     let mut shown = String::new(rt.alloc());
-    for line in lines() {
+    for line in lines {
         if let Some(cells) = cells_of(line) {
-            let mut subscript = cells.low;
-            for figure in figures_of(cells, &figures) {
-                let label = cell_label(rt.alloc(), TEXT, &records(), line, subscript)?;
-                let words = format!(in rt.alloc(); "{label} = {figure}, ")?;
-                shown.push_str(words.as_str())?;
-                subscript = subscript.saturating_add(1);
+            let subscripts = cells.low..i64::MAX;
+            for (figure, subscript) in figures_of(cells, &figures).iter().zip(subscripts) {
+                let label = CellLabel {
+                    source,
+                    line,
+                    subscript,
+                };
+                write!(shown, "{label} = {figure}, ")?;
             }
         }
     }

@@ -3,6 +3,8 @@
 use analysis::symbol::{NameKind, NameRecord};
 use parser::node::{Bound, Node};
 use parser::table::Record;
+use reports::source::Source;
+use reports::symbol_table::SymbolTable;
 use symbols::value_type::ValueType;
 use words::token::{Sign, Token};
 use words::word::Word;
@@ -59,4 +61,13 @@ pub(crate) fn lines() -> [NameRecord; 5] {
         line(3, NameKind::Label, ValueType::Untyped, 5),
         line(4, NameKind::Variable, ValueType::Integer, 5),
     ]
+}
+
+// The symbol table over such records and lines.
+pub(crate) fn table<'a>(records: &'a [Record], lines: &'a [NameRecord]) -> SymbolTable<'a> {
+    let source = Source {
+        text: TEXT,
+        records,
+    };
+    SymbolTable { source, lines }
 }

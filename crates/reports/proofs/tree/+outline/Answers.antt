@@ -6,12 +6,12 @@ use Rattle.reports.specs.Captions.{node_shown}
 use Rattle.reports.specs.Outlines.{part_outline, own_line, depth_below, outline_line}
 use Rattle.reports.proofs.OutlineSteps.{of_some, outlined, row_is_silent, others_tell}
 use Rattle.reports.proofs.tree.+outline.Goals as goal
-use Rattle.reports.proofs.tree.+outline.Goals.{in-More, in_default, then-not-matches+in_ok-words+in_ok-push_line, else-not-matches}
+use Rattle.reports.proofs.tree.+outline.Goals.{in-More, in_default, then-not-matches+in_ok-write, else-not-matches}
 
 pub returns-clause-lines : goal.returns-clause-lines
 returns-clause-lines t c =
-    let text = c.args.text.now in
-    let rs = c.args.records.now in
+    let text = c.args.source.text.now in
+    let rs = c.args.source.records.now in
     let n = c.node_of-node.result in
     let d = c.args.depth in
     let items = c.parts-part-items.result in
@@ -27,10 +27,9 @@ returns-clause-lines t c =
     ] in
     let own : (string_bytes c.if-not-matches.out ≡ string_bytes c.args.out.now ++ own_line text rs d n) × (c.if-not-matches.below ≡ depth_below d n) =
     elim c.if-not-matches.branch [
-      | then-not-matches+in_ok-words+in_ok-push_line w ↦
+      | then-not-matches+in_ok-write w ↦
           (let o = other w.if-not-matches.true in (
-            ap string_bytes w.out-is ∙ w.in_ok-push_line.ensures ∙ ap (λ (x : List ℕ). string_bytes c.args.out.now ++ x)
-                (ap (λ (x : List ℕ). outline_line d x) (w.as_str.ensures.value ∙ w.in_ok-words.ensures) ∙ sym o.0),
+            ap string_bytes w.out-is ∙ (let e : string_bytes w.write.new.self ≡ string_bytes c.args.out.now ++ outline_line d (node_shown text rs n) = w.in_ok-write.ensures.bytes in e) ∙ sym (ap (λ (x : List ℕ). string_bytes c.args.out.now ++ x) o.0),
             w.below-is ∙ w.saturating_add-below.ensures ∙ sym o.1,
           ))
       | else-not-matches w ↦

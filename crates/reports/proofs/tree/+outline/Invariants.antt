@@ -10,4 +10,4 @@ decreases-outline l = l.i
 
 -- The lines of the parts so far.
 abbrev pub invariant-loop-part : goal.invariant-loop-part
-invariant-loop-part l = string_bytes l.out ≡ string_bytes l.initial.out ++ flat_map (of_some (part_outline l.text l.records l.below l.i)) (take l.part-index l.part-items)
+invariant-loop-part l = string_bytes l.out ≡ string_bytes l.initial.out ++ flat_map (of_some (part_outline l.source.text.now l.source.records.now l.below l.i)) (take l.part-index l.part-items)
