@@ -2,10 +2,8 @@
 
 ghost use Rattle.std.specs.Prelude.{◌≡◌, suc, MatchResult};
 ghost use Rattle.figures.specs.Kinds.{stands_for_zero};
-ghost use Rattle.rolls.specs.Contents.{first as first_figure, rest};
-ghost use Rattle.rolls.specs.Endings.{taken};
 ghost use Rattle.rolls.specs.Filters.{number};
-ghost use Rattle.rolls.specs.Groups.{IsGroupSize, MadeOver, filtered, left_after, past};
+ghost use Rattle.rolls.specs.Groups.{IsGroupSize, MadeOver, filtered, past};
 ghost use Rattle.rolls.specs.declared.leavers.FilterRefusal.TheVariants.{GroupSize};
 
 use crate::roll::{Ending, Roll};
@@ -41,16 +39,16 @@ impl<R> FilterRefusal<R> {
 impl<R: Roll> LeaverFilter<R> {
     // The filter over a roll, with this group size.
     pub fn new(roll: R, group: usize) -> Result<LeaverFilter<R>, FilterRefusal<R>>
-        ensures { MatchResult result (λ f. MadeOver (stands_for_zero R.Figure.Figures.kind R.Figure.Figures.means) group (R.holds roll) (filtered (stands_for_zero R.Figure.Figures.kind R.Figure.Figures.means) (suc f.behind) f.left (R.holds f.roll))) (λ e. (IsGroupSize group → ⊥) × (e ≡ GroupSize roll)) }
+        ensures { MatchResult result (λ f. MadeOver (stands_for_zero R.Figure.Figures.kind R.Figure.Figures.means) group (R.holds roll) (⟦<LeaverFilter<R> as Roll>⟧.holds f)) (λ e. (IsGroupSize group → ⊥) × (e ≡ GroupSize roll)) }
     {
-        if group < 1 || group > 64 {
-            return Err(FilterRefusal::GroupSize(roll));
+        match group {
+            1..=64 => Ok(LeaverFilter {
+                roll,
+                behind: group - 1,
+                left: 0,
+            }),
+            _ => Err(FilterRefusal::GroupSize(roll)),
         }
-        Ok(LeaverFilter {
-            roll,
-            behind: group - 1,
-            left: 0,
-        })
     }
 }
 
@@ -60,21 +58,6 @@ fn skip<R: Roll>(roll: &mut R, count: usize)
 {
     for _ in 0..count {
         let _ = roll.take();
-    }
-}
-
-// The first figure of the next group that is kept.
-fn next_kept<R: Roll>(roll: &mut R, behind: usize) -> Result<R::Figure, Ending>
-    ensures answer { taken result ≡ first_figure (filtered (stands_for_zero R.Figure.Figures.kind R.Figure.Figures.means) (suc behind) 0 (R.holds roll.old)) }
-    ensures after { filtered (stands_for_zero R.Figure.Figures.kind R.Figure.Figures.means) (suc behind) (left_after behind result) (R.holds roll.new) ≡ rest (filtered (stands_for_zero R.Figure.Figures.kind R.Figure.Figures.means) (suc behind) 0 (R.holds roll.old)) }
-{
-    let nought = zero::<R::Figure>();
-    loop {
-        let first = roll.take()?;
-        if !first.same(nought) {
-            return Ok(first);
-        }
-        skip(roll, behind);
     }
 }
 
@@ -88,8 +71,14 @@ impl<R: Roll> Roll for LeaverFilter<R> {
             self.left -= 1;
             return self.roll.take();
         }
-        let first = next_kept(&mut self.roll, self.behind)?;
-        self.left = self.behind;
-        Ok(first)
+        let nought = zero::<R::Figure>();
+        loop {
+            let first = self.roll.take()?;
+            if !first.same(nought) {
+                self.left = self.behind;
+                return Ok(first);
+            }
+            skip(&mut self.roll, self.behind);
+        }
     }
 }

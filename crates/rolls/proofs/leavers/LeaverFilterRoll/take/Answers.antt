@@ -1,39 +1,38 @@
-use Rattle.std.proofs.Common.{◌≡◌, suc, ◌-◌, Bool, sym, ap, ◌∙◌, arith}
-use Rattle.std.proofs.lemmas.Result.{err_from_is_err_and}
-use Rattle.figures.specs.Kinds.{stands_for_zero}
-use Rattle.rolls.specs.Contents.{first, rest}
-use Rattle.rolls.specs.Groups.{filtered}
-use Rattle.rolls.proofs.Grouping.{inside_first, inside_rest}
+use Rattle.std.proofs.Common.{◌≡◌, suc, ◌-◌, Bool, true, false, sym, ap, ◌∙◌}
+use Rattle.figures.specs.Kinds.{same_as, stands_for_zero}
+use Rattle.rolls.specs.Contents.{rest}
+use Rattle.rolls.specs.Groups.{filtered, past}
+use Rattle.rolls.proofs.Grouping.{dropped_after, inside_rest, kept_after}
 use Rattle.rolls.proofs.leavers.LeaverFilterRoll.take.Goals as goal
 
-pub returns-then-self-gt0 : goal.returns-then-self-gt0
-returns-then-self-gt0 g c =
+pub returns-then-self-gt0-clause-left : goal.returns-then-self-gt0-clause-left
+returns-then-self-gt0-clause-left g c =
     let z : g.row.R-Figure.Denot → Bool = stands_for_zero g.R.Figure.Figures.kind g.R.Figure.Figures.means in
     let f = c.args.self.now in
-    let held = g.R.Roll.holds f.roll in
-    record {
-      answer = c.take.ensures.answer ∙ sym (inside_first z (suc f.behind) f.left held c.if-self-gt0.true);
-      left = ap (λ r. filtered z (suc f.behind) (f.left - 1) r) c.take.ensures.left ∙ inside_rest z (suc f.behind) f.left held c.if-self-gt0.true;
-    }
+    ap (filtered z (suc f.behind) (f.left - 1)) c.take.ensures.left
+    ∙ inside_rest z (suc f.behind) f.left (g.R.Roll.holds f.roll) c.if-self-gt0.true
 
-pub returns-in_err-first : goal.returns-in_err-first
-returns-in_err-first g c =
+pub returns-then-not-same-clause-left : goal.returns-then-not-same-clause-left
+returns-then-not-same-clause-left g c =
     let z : g.row.R-Figure.Denot → Bool = stands_for_zero g.R.Figure.Figures.kind g.R.Figure.Figures.means in
-    let f = c.args.self.now in
-    let held = g.R.Roll.holds f.roll in
-    let none : f.left ≡ 0 = omega arith in
-    let at_start = ap (λ left. filtered z (suc f.behind) left held) none in
-    let after_is = ap (λ left. filtered z (suc f.behind) left (g.R.Roll.holds c.next_kept.new.roll)) none in
-    let e = c.in_err-first.ensures in
-    let p = err_from_is_err_and c.from_residual.result c.from_residual.ensures.1 in
-    rw (p.1, p.2) (record { answer = e.answer ∙ sym (ap first at_start); left = after_is ∙ e.after ∙ sym (ap rest at_start) })
+    let behind = c.loop-first.self.behind in
+    let x = c.in_ok-first.first in
+    let stays : z x ≡ false =
+    ap (same_as g.R.Figure.Figures.kind (g.R.Figure.Figures.means x)) c.zero-nought.ensures ∙ sym c.same.ensures ∙ c.if-not-same.true
+    in
+    ap (filtered z (suc behind) behind) c.in_ok-first.ensures.left
+    ∙ kept_after z behind (g.R.Roll.holds c.loop-first.self.roll) x c.in_ok-first.ensures.answer stays ∙ ap rest c.loop-first.invariant.1
 
-pub returns : goal.returns
-returns g c =
+pub loop-first-preserved : goal.loop-first-preserved
+loop-first-preserved g c =
     let z : g.row.R-Figure.Denot → Bool = stands_for_zero g.R.Figure.Figures.kind g.R.Figure.Figures.means in
-    let f = c.args.self.now in
-    let held = g.R.Roll.holds f.roll in
-    let none : f.left ≡ 0 = omega arith in
-    let at_start = ap (λ left. filtered z (suc f.behind) left held) none in
-    let e = c.in_ok-first.ensures in
-    record { answer = e.answer ∙ sym (ap first at_start); left = e.after ∙ sym (ap rest at_start) }
+    let behind = c.loop-first.self.behind in
+    let x = c.in_ok-first.first in
+    let skipped = c.skip.ensures ∙ ap (past behind) c.in_ok-first.ensures.left in
+    let gone : z x ≡ true =
+    ap (same_as g.R.Figure.Figures.kind (g.R.Figure.Figures.means x)) c.zero-nought.ensures ∙ sym c.same.ensures ∙ c.if-not-same.false
+    in (
+      c.loop-first.invariant.0,
+      ap (filtered z (suc behind) 0) skipped
+          ∙ dropped_after z behind (g.R.Roll.holds c.loop-first.self.roll) x c.in_ok-first.ensures.answer gone ∙ c.loop-first.invariant.1,
+    )
