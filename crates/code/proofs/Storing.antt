@@ -1,9 +1,13 @@
 -- What the buffer holds after a store, and the arrays after a load.
-use Rattle.std.proofs.Common.{◌≡◌, ℕ, ◌+◌, ◌*◌, ◌<◌, ◌≤◌, true, List, ◌++◌, length, take, drop, sym, ap, ◌∙◌, ap₂, arith}
-use Rattle.std.proofs.lemmas.List.{append_assoc, take-append-drop}
+use Rattle.std.proofs.Common.{◌≡◌, ℕ, ◌+◌, ◌*◌, ◌<◌, ◌≤◌, true, false, List, ◌++◌, length, take, drop, sym, ap, ◌∙◌, ap₂, arith}
+use Rattle.std.proofs.lemmas.List.{append_assoc, length-take-le, take-append-drop}
+use Rattle.std.proofs.lemmas.Bool.Decides.{nat_tests}
 use Rattle.std.proofs.lemmas.Bool.{eq-eqb, le-leb, ne_eqb}
 use Rattle.std.specs.List.{flat_map}
+use Rattle.code.specs.declared.refusals.Refusal.{Refusal}
+use Rattle.code.specs.declared.refusals.Refusal.TheVariants.{BadSizes}
 use Rattle.code.specs.declared.sizes.Sizes.{Sizes}
+use Rattle.code.specs.Answers.{number}
 use Rattle.code.specs.Codes.{code_of}
 use Rattle.code.specs.Check.{lent_ok}
 use Rattle.code.specs.Files.{bytes_of, header, file, file_length, sizes_in, numbers, gives, refuses, store, load, loaded}
@@ -14,13 +18,15 @@ rejoin : (n : ℕ) (xs front rest : List ℕ) → take n xs ≡ front → drop n
 rejoin n xs front rest e f = sym (take-append-drop n xs) ∙ ap₂ (λ a b. a ++ b) e f
 
 -- The header, the operations and the operands, written one behind the other, are the file.
-module _ (s : Sizes) (os xs bytes operands b₀ b₁ b₂ b₃ : List ℕ) (front : bytes ≡ take s.operations os) (beside : operands ≡ take s.operations xs) (size : length bytes ≡ s.operations) (long : length operands ≡ s.operations) where
+module _ (s : Sizes) (os xs : List ℕ) (good : lent_ok s (length os) (length xs) ≡ true) (bytes operands b₀ b₁ b₂ b₃ : List ℕ) (front : bytes ≡ take s.operations os) (beside : operands ≡ take s.operations xs) where
   pub stored_buffer : take 16 b₁ ≡ header s → drop 16 b₁ ≡ drop 16 b₀
       → take (16 + length bytes) b₂ ≡ take 16 b₁ ++ bytes → drop (16 + length bytes) b₂ ≡ drop (16 + length bytes) b₁
       → take (16 + s.operations + 8 * length operands) b₃ ≡ take (16 + s.operations) b₂ ++ flat_map (bytes_of 8) operands
       → drop (16 + s.operations + 8 * length operands) b₃ ≡ drop (16 + s.operations + 8 * length operands) b₂
       → b₃ ≡ file (code_of s os xs) ++ drop (file_length s) b₀
   stored_buffer head head-rest ops ops-rest nums nums-rest =
+      let size : length bytes ≡ s.operations = ap length front ∙ length-take-le s.operations os (grind (arith, nat_tests)) in
+      let long : length operands ≡ s.operations = ap length beside ∙ length-take-le s.operations xs (grind (arith, nat_tests)) in
       let end : file_length s ≡ 16 + s.operations + 8 * length operands = omega arith in
       let mid : 16 + s.operations ≡ 16 + length bytes = omega arith in
       let two = ap (λ n. take n b₂) mid ∙ ops ∙ ap (λ t. t ++ bytes) head in
@@ -34,6 +40,11 @@ module _ (s : Sizes) (os xs bytes operands b₀ b₁ b₂ b₃ : List ℕ) (fron
 pub store_done : (s : Sizes) (os xs before after : List ℕ) → lent_ok s (length os) (length xs) ≡ true → file_length s ≤ length before
     → after ≡ file (code_of s os xs) ++ drop (file_length s) before → store s os xs before ≡ record { answer = gives (file_length s); buffer = after }
 store_done s os xs before after good room e = rw (good, le-leb (file_length s) (length before) room) (ap (λ b. record { answer = gives (file_length s); buffer = b }) (sym e))
+
+-- Sizes that the arrays do not allow are refused, and the buffer stays.
+pub store_refused : (s : Sizes) (os xs before : List ℕ) (e : Refusal) → lent_ok s (length os) (length xs) ≡ false → e ≡ BadSizes
+    → store s os xs before ≡ record { answer = refuses (number e); buffer = before }
+store_refused s os xs before e bad h = rw bad (ap (λ e. record { answer = refuses (number e); buffer = before }) (sym h))
 
 -- The operations, copied into the front of an array.
 pub loaded_operations : (n : ℕ) (bs part before after : List ℕ) → part ≡ take n (drop 16 bs) → length part ≡ n

@@ -44,11 +44,8 @@ module _ (s : Sizes) (os xs : List ℕ) where
   pub sizes_ok_cut : sizes_ok (code_of s os xs) ≡ lent_ok s (length os) (length xs)
   sizes_ok_cut = ap₂ (λ a b. limits_ok s && (a && b)) (cut_length os) (cut_length xs)
 
--- The first n entries of lent arrays, under names of their own: their check is the check of the lent code.
-module _ (s : Sizes) (os xs : List ℕ) {bytes numbers : List ℕ} (front : bytes ≡ take s.operations os) (beside : numbers ≡ take s.operations xs) where
-  pub cut_code : ◌≡◌ {A = Code} (record { sizes = s; operations = bytes; operands = numbers }) (code_of s os xs)
-  cut_code = cc
-
-  pub check_cut : lent_ok s (length os) (length xs) ≡ true
-      → check_from (record { sizes = s; operations = bytes; operands = numbers }) bytes 0 0 ≡ check (code_of s os xs)
-  check_cut good = ap (λ (c : Code). check_from c c.operations 0 0) cut_code ∙ sym (check_good_sizes (code_of s os xs) (sizes_ok_cut s os xs ∙ good))
+-- The check of the code that lent arrays hold is that of its operations.
+module _ (s : Sizes) (os xs : List ℕ) where
+  pub check_cut : (c : Code) → c ≡ code_of s os xs → lent_ok s (length os) (length xs) ≡ true → check_from c c.operations 0 0 ≡ check (code_of s os xs)
+  check_cut c e good =
+      ap (λ (c : Code). check_from c c.operations 0 0) e ∙ sym (check_good_sizes (code_of s os xs) (sizes_ok_cut s os xs ∙ good))

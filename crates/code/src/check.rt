@@ -1,10 +1,10 @@
 // The check of code, rule by rule.
-ghost use Rattle.std.specs.Prelude.{◌≡◌, ℕ, ◌+◌, ◌<◌, ◌≤◌, length, Some, MatchResult};
+ghost use Rattle.std.specs.Prelude.{◌≡◌, ℕ, ◌+◌, ◌<◌, ◌≤◌, length, Some, MatchResult, is_ok};
 ghost use Rattle.code.specs.Answers.{ruling_of, told_at, verdict_of};
 ghost use Rattle.code.specs.Operations.{operand, role};
 ghost use Rattle.code.specs.Check.{check_from, closed, closes, depth_ok, is_jump_table, leading_jumps, last_ok, lent_ok, may_land, opens, operand_ok, place_ok, ruling, target_ok};
 ghost use Rattle.code.specs.CheckedCode.{Checks};
-ghost use Rattle.code.specs.Codes.{code_of, role_at};
+ghost use Rattle.code.specs.Codes.{Code, code_of, role_at};
 
 use crate::checked::Checked;
 use crate::descriptor::Descriptor;
@@ -167,26 +167,57 @@ impl Site<'_> {
     }
 }
 
-// 22 to 26: the operations in their order, with the figures on the stack counted along.
-fn check_operations(sizes: Sizes, operations: &[u8], operands: &[u64]) -> Result<(), Refusal>
-    requires { (length operations.now ≤ length operands.now) × (sizes.depth ≤ 256) }
-    ensures { verdict_of result ≡ check_from (record { sizes = sizes; operations = operations.now; operands = operands.now }) operations.now 0 0 }
-{
-    let mut depth = 0;
-    for (place, byte) in operations.iter().enumerate() {
-        let Ok(operation) = Operation::try_from(*byte) else {
-            return Err(Refusal::UnknownOperation(place));
-        };
-        let site = Site {
+// Code in arrays that a caller lends: its sizes, and the first n entries of both arrays.
+#[derive(Clone, Copy)]
+pub(crate) struct Lent<'a> {
+    sizes: Sizes,
+    pub(crate) operations: &'a [u8],
+    pub(crate) operands: &'a [u64],
+    ghost within: { (length operations.now ≤ length operands.now) × (sizes.depth ≤ 256) },
+}
+
+impl<'a> Lent<'a> {
+    // 21: the sizes, over the arrays.
+    pub(crate) fn new(
+        sizes: Sizes,
+        operations: &'a [u8],
+        operands: &'a [u64],
+    ) -> Result<Lent<'a>, Refusal>
+        ensures decided { lent_ok sizes (length operations.now) (length operands.now) ≡ is_ok result }
+        ensures cut { MatchResult result (λ c. ◌≡◌ {A = Code} (record { sizes = c.sizes; operations = c.operations.now; operands = c.operands.now }) (code_of sizes operations.now operands.now)) (λ e. e ≡ Refusal.BadSizes) }
+    {
+        if !are_lent_sizes_ok(sizes, operations.len(), operands.len()) {
+            return Err(Refusal::BadSizes);
+        }
+        let (operations, _) = operations.split_at(sizes.operations as usize);
+        let (operands, _) = operands.split_at(sizes.operations as usize);
+        Ok(Lent {
             sizes,
             operations,
-            place,
-            operation,
-            operand: operands[place],
-        };
-        depth = site.judge(depth)?;
+            operands,
+        })
     }
-    Ok(())
+
+    // 22 to 26: the operations in their order, with the figures on the stack counted along.
+    fn check(&self) -> Result<(), Refusal>
+        ensures { verdict_of result ≡ check_from (record { sizes = self.now.sizes; operations = self.now.operations.now; operands = self.now.operands.now }) self.now.operations.now 0 0 }
+    {
+        let mut depth = 0;
+        for (place, byte) in self.operations.iter().enumerate() {
+            let Ok(operation) = Operation::try_from(*byte) else {
+                return Err(Refusal::UnknownOperation(place));
+            };
+            let site = Site {
+                sizes: self.sizes,
+                operations: self.operations,
+                place,
+                operation,
+                operand: self.operands[place],
+            };
+            depth = site.judge(depth)?;
+        }
+        Ok(())
+    }
 }
 
 // Checks code: the first n entries of both arrays. Code that passes is put into `place`, which else stays as it was.
@@ -199,17 +230,12 @@ pub fn check<'a>(
 ) -> Result<(), Refusal>
     ensures { Checks (code_of sizes operations.now operands.now) place.old result place.new }
 {
-    if !are_lent_sizes_ok(sizes, operations.len(), operands.len()) {
-        return Err(Refusal::BadSizes);
-    }
-    let count = sizes.operations as usize;
-    let (bytes, _) = operations.split_at(count);
-    let (numbers, _) = operands.split_at(count);
-    check_operations(sizes, bytes, numbers)?;
+    let code = Lent::new(sizes, operations, operands)?;
+    code.check()?;
     *place = Checked {
-        sizes,
-        operations: bytes,
-        operands: numbers,
+        sizes: code.sizes,
+        operations: code.operations,
+        operands: code.operands,
     };
     Ok(())
 }

@@ -4,7 +4,7 @@ ghost use Rattle.std.specs.Prelude.{◌≡◌, ℕ, ◌+◌, ◌*◌, ◌<◌, �
 ghost use Rattle.std.specs.List.{flat_map};
 ghost use Rattle.code.specs.Files.{Reloads, Restores, answer_of, bytes_of, file, file_length, header, load as loading, number_of, sizes_in, store as storing};
 
-use crate::check::are_lent_sizes_ok;
+use crate::check::{Lent, are_lent_sizes_ok};
 use crate::refusals::Refusal;
 use crate::sizes::Sizes;
 
@@ -75,19 +75,15 @@ pub fn store(
     ensures answer { storing sizes operations.now operands.now buffer.old ≡ record { answer = answer_of result; buffer = buffer.new } }
     ensures reloads { IfOk result (λ k. Reloads sizes operations.now operands.now (take k buffer.new)) }
 {
-    if !are_lent_sizes_ok(sizes, operations.len(), operands.len()) {
-        return Err(Refusal::BadSizes);
-    }
+    let code = Lent::new(sizes, operations, operands)?;
     let count = sizes.operations as usize;
     let length = HEADER + 9 * count;
     if buffer.len() < length {
         return Err(Refusal::ShortBuffer);
     }
-    let (bytes, _) = operations.split_at(count);
-    let (numbers, _) = operands.split_at(count);
     write_header(buffer, sizes);
-    write(buffer, HEADER, bytes);
-    write_operands(buffer, HEADER + count, numbers);
+    write(buffer, HEADER, code.operations);
+    write_operands(buffer, HEADER + count, code.operands);
     Ok(length)
 }
 

@@ -1,7 +1,7 @@
 use Rattle.std.proofs.Common.{◌≡◌, Some, None, sym, ap, ◌∙◌}
 use Rattle.std.specs.Option.{option_map}
 use Rattle.code.specs.Codes.{operation_at}
-use Rattle.code.specs.Operations.{operation, role}
+use Rattle.code.specs.Operations.{role}
 use Rattle.code.proofs.Places.{operation_at_inside, operation_at_past}
 use Rattle.code.proofs.check.role_at.Goals as goal
 

@@ -1,4 +1,4 @@
-use Rattle.std.proofs.Common.{sym, ap, ◌∙◌, arith}
+use Rattle.std.proofs.Common.{sym, ◌∙◌, arith}
 use Rattle.code.proofs.Bytes.{number_of_8, numbers_step}
 use Rattle.code.proofs.stored.read_operands.Goals as goal
 
