@@ -1,90 +1,99 @@
 // What a run came to, as one JSON object on a line.
 
-use crate::outcome::Slice;
+use crate::outcome::{Outcome, Slice};
 use crate::shown::Shown;
 use code::sizes::Sizes;
-use machine::fault::RunFault;
-use machine::status::{Standing, Status};
-use std::io;
+use machine::status::Standing;
+use std::fmt;
 
-pub(crate) fn print_json<F: Shown>(
-    rt: &HostRuntime,
-    sizes: Sizes,
-    slices: &[Slice],
-    status: Status,
-    cells: &[F],
-    book: &[F],
-) -> io::Result<()> {
-    print_sizes(rt, sizes)?;
-    print_advances(rt, slices)?;
-    print_count(rt, status.count)?;
-    print_figures(rt, book, status.posted)?;
-    print_standing(rt, status.standing)?;
-    rt.print(", \"cells\": ")?;
-    print_figures(rt, cells, sizes.named as usize)?;
-    rt.println("}")
-}
+#[derive(Drop)]
+pub(crate) struct Json<'a, 'b, F>(pub &'a Outcome<'b, F>);
 
-fn print_sizes(rt: &HostRuntime, sizes: Sizes) -> io::Result<()> {
-    let (n, v, m, d) = (sizes.operations, sizes.named, sizes.cells, sizes.depth);
-    print!(rt; "{{\"sizes\": {{\"n\": {n}, \"v\": {v}, \"m\": {m}, \"depth\": {d}}}")
-}
-
-fn print_advances(rt: &HostRuntime, slices: &[Slice]) -> io::Result<()> {
-    rt.print(", \"advances\": [")?;
-    for (i, slice) in slices.iter().enumerate() {
-        print_advance(rt, comma(i), slice.asked, slice.made)?;
-    }
-    rt.print("]")
-}
-
-fn print_advance(rt: &HostRuntime, comma: &str, asked: u64, made: u64) -> io::Result<()> {
-    print!(rt; "{comma}[{asked}, {made}]")
-}
-
-fn print_count(rt: &HostRuntime, count: u64) -> io::Result<()> {
-    print!(rt; ", \"count\": {count}, \"posted\": ")
-}
-
-// What stands before the element of a list at a place.
-fn comma(place: usize) -> &'static str {
-    if place == 0 { "" } else { ", " }
-}
-
-fn print_standing(rt: &HostRuntime, standing: Standing) -> io::Result<()> {
-    match standing {
-        Standing::Going => rt.print(", \"status\": \"going\""),
-        Standing::End => rt.print(", \"status\": \"end\""),
-        Standing::Fault(fault, place) => print_fault(rt, fault, place),
+impl<F: Shown> fmt::Display for Json<'_, '_, F> {
+    fn fmt<W: fmt::Write>(&self, f: &mut fmt::Formatter<W>) -> fmt::Result {
+        let outcome = self.0;
+        write!(f, "{{\"sizes\": {}", JsonSizes(outcome.sizes))?;
+        write!(f, ", \"advances\": {}", JsonList::plain(outcome.slices))?;
+        write!(f, ", \"count\": {}", outcome.status.count)?;
+        write!(f, ", \"posted\": {}", JsonList::quoted(outcome.posted))?;
+        write!(f, ", \"status\": {}", JsonStanding(outcome.status.standing))?;
+        write!(f, ", \"cells\": {}}}", JsonList::quoted(outcome.cells))
     }
 }
 
-fn print_fault(rt: &HostRuntime, fault: RunFault, place: u64) -> io::Result<()> {
-    print_fault_place(rt, fault.number(), place)?;
-    match fault.roll_place() {
-        Some(at) => rt.print(at)?,
-        None => rt.print("null")?,
+#[derive(Clone, Copy)]
+struct JsonSizes(Sizes);
+
+impl fmt::Display for JsonSizes {
+    fn fmt<W: fmt::Write>(&self, f: &mut fmt::Formatter<W>) -> fmt::Result {
+        let Sizes {
+            operations,
+            named,
+            cells,
+            depth,
+        } = self.0;
+        write!(
+            f,
+            "{{\"n\": {operations}, \"v\": {named}, \"m\": {cells}, \"depth\": {depth}}}"
+        )
     }
-    rt.print("}")
 }
 
-fn print_fault_place(rt: &HostRuntime, number: u8, place: u64) -> io::Result<()> {
-    print!(rt;
-        ", \"status\": \"fault\", \"fault\": {{\"number\": {number}, \"place\": {place}, \"roll\": "
-    )
-}
-
-// The first so many figures as a list of strings.
-fn print_figures<F: Shown>(rt: &HostRuntime, figures: &[F], count: usize) -> io::Result<()> {
-    rt.print("[")?;
-    for (i, figure) in figures.iter().take(count).enumerate() {
-        print_figure(rt, comma(i), *figure)?;
+impl fmt::Display for Slice {
+    fn fmt<W: fmt::Write>(&self, f: &mut fmt::Formatter<W>) -> fmt::Result {
+        write!(f, "[{}, {}]", self.asked, self.made)
     }
-    rt.print("]")
 }
 
-fn print_figure<F: Shown>(rt: &HostRuntime, comma: &str, figure: F) -> io::Result<()> {
-    print!(rt; "{comma}\"")?;
-    figure.print(rt)?;
-    rt.print("\"")
+// A list of what its items print, each between two quotes or none.
+#[derive(Drop)]
+struct JsonList<'a, T> {
+    items: &'a [T],
+    quote: &'static str,
+}
+
+impl<'a, T> JsonList<'a, T> {
+    fn plain(items: &'a [T]) -> JsonList<'a, T> {
+        JsonList { items, quote: "" }
+    }
+
+    fn quoted(items: &'a [T]) -> JsonList<'a, T> {
+        JsonList { items, quote: "\"" }
+    }
+}
+
+impl<T: fmt::Display> fmt::Display for JsonList<'_, T> {
+    fn fmt<W: fmt::Write>(&self, f: &mut fmt::Formatter<W>) -> fmt::Result {
+        let quote = self.quote;
+        f.write_str("[")?;
+        for (i, item) in self.items.iter().enumerate() {
+            let comma = if i == 0 { "" } else { ", " };
+            write!(f, "{comma}{quote}{item}{quote}")?;
+        }
+        f.write_str("]")
+    }
+}
+
+// How a run stands, and behind a fault what is known of it.
+#[derive(Clone, Copy)]
+struct JsonStanding(Standing);
+
+impl fmt::Display for JsonStanding {
+    fn fmt<W: fmt::Write>(&self, f: &mut fmt::Formatter<W>) -> fmt::Result {
+        match self.0 {
+            Standing::Going => f.write_str("\"going\""),
+            Standing::End => f.write_str("\"end\""),
+            Standing::Fault(fault, place) => {
+                let number = fault.number();
+                write!(
+                    f,
+                    "\"fault\", \"fault\": {{\"number\": {number}, \"place\": {place}, \"roll\": "
+                )?;
+                match fault.roll_place() {
+                    Some(at) => write!(f, "{at}}}"),
+                    None => f.write_str("null}"),
+                }
+            }
+        }
+    }
 }

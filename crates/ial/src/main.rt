@@ -5,6 +5,7 @@
 mod arguments;
 mod check;
 mod failure;
+mod files;
 mod help;
 mod json;
 mod list;
@@ -18,30 +19,39 @@ mod visible;
 
 use arguments::Command;
 use failure::Failure;
-use std::env;
 use std::process::ExitCode;
+use std::{env, io};
 
 fn execute(rt: &HostRuntime) -> Result<(), Failure> {
-    let mut words = Vec::new(rt.alloc());
-    for word in env::args(rt)? {
-        words.push(word)?;
-    }
+    let words: Vec<String> = env::args(rt)?.collect(rt.alloc())?;
+    let words: Vec<&str> = words.iter().map(|word| word.as_str()).collect(rt.alloc())?;
     match arguments::parse(rt.alloc(), words.as_slice())? {
         Command::Help => help::print(rt),
         Command::Roll { file, group } => roll::report(rt, file, group),
         Command::Check { file } => check::report(rt, file),
         Command::List { file } => list::report(rt, file),
-        Command::Run(options) => run::report(rt, &options),
+        Command::Run {
+            code,
+            roll,
+            options,
+        } => run::report(rt, code, roll, &options),
+    }
+}
+
+// A refusal of code is a result and goes to standard output, any other failure to standard error.
+fn tell(rt: &HostRuntime, failure: &Failure) -> io::Result<()> {
+    match failure {
+        Failure::Code(_) => println!(rt; "{failure}"),
+        _ => eprintln!(rt; "ial: {failure}"),
     }
 }
 
 fn main(rt: HostRuntime) -> ExitCode {
-    match execute(&rt) {
-        Ok(()) => ExitCode::SUCCESS,
-        Err(Failure::Told) => ExitCode::FAILURE,
-        Err(failure) => {
-            let _ = eprintln!(rt; "ial: {failure}");
-            ExitCode::FAILURE
-        }
+    let Err(failure) = execute(&rt) else {
+        return ExitCode::SUCCESS;
+    };
+    if tell(&rt, &failure).is_err() {
+        let _ = tell(&rt, &Failure::Output);
     }
+    ExitCode::FAILURE
 }

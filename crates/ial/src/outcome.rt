@@ -1,18 +1,27 @@
 // What a run came to, for people or as one JSON object.
 
-use crate::json::print_json;
+use crate::json::Json;
 use crate::shown::Shown;
 use code::sizes::Sizes;
-use machine::fault::RunFault;
 use machine::status::{Standing, Status};
-use std::io;
 use std::io::IsTerminal;
+use std::{fmt, io};
 
 // One advance: the steps asked for and those made.
 #[derive(Clone, Copy)]
 pub struct Slice {
     pub asked: u64,
     pub made: u64,
+}
+
+// What a run came to: its advances and its status, the named cells, and the figures that it posted.
+#[derive(Drop)]
+pub(crate) struct Outcome<'a, F> {
+    pub sizes: Sizes,
+    pub slices: &'a [Slice],
+    pub status: Status,
+    pub cells: &'a [F],
+    pub posted: &'a [F],
 }
 
 // The count of steps on standard error, where that is a terminal.
@@ -22,85 +31,52 @@ pub(crate) fn progress(rt: &HostRuntime, count: u64) {
     }
 }
 
-pub(crate) fn print<F: Shown>(
-    rt: &HostRuntime,
-    json: bool,
-    sizes: Sizes,
-    slices: &[Slice],
-    status: Status,
-    cells: &[F],
-    book: &[F],
-) -> io::Result<()> {
-    if rt.stderr().is_terminal() {
-        let _ = rt.eprint("\r");
-    }
-    if json {
-        print_json(rt, sizes, slices, status, cells, book)
-    } else {
-        print_text(rt, sizes, status, cells, book)
+impl<F: Shown> Outcome<'_, F> {
+    pub(crate) fn print(&self, rt: &HostRuntime, json: bool) -> io::Result<()> {
+        if rt.stderr().is_terminal() {
+            let _ = rt.eprint("\r");
+        }
+        if json {
+            println!(rt; "{}", Json(self))
+        } else {
+            print!(rt; "{self}")
+        }
     }
 }
 
-fn print_text<F: Shown>(
-    rt: &HostRuntime,
-    sizes: Sizes,
-    status: Status,
-    cells: &[F],
-    book: &[F],
-) -> io::Result<()> {
-    print_count(rt, "posted", status.posted as u64)?;
-    for figure in book.iter().take(status.posted) {
-        print_figure(rt, *figure)?;
-    }
-    print_count(rt, "count", status.count)?;
-    print_standing(rt, status.standing)?;
-    print_count(rt, "cells", sizes.named as u64)?;
-    for (cell, figure) in cells.iter().take(sizes.named as usize).enumerate() {
-        print_cell(rt, cell, *figure)?;
-    }
-    Ok(())
-}
-
-fn print_count(rt: &HostRuntime, what: &str, count: u64) -> io::Result<()> {
-    println!(rt; "{what}: {count}")
-}
-
-fn print_figure<F: Shown>(rt: &HostRuntime, figure: F) -> io::Result<()> {
-    rt.print("  ")?;
-    figure.print(rt)?;
-    rt.println("")
-}
-
-fn print_cell<F: Shown>(rt: &HostRuntime, cell: usize, figure: F) -> io::Result<()> {
-    print!(rt; "  {cell}: ")?;
-    figure.print(rt)?;
-    rt.println("")
-}
-
-fn print_standing(rt: &HostRuntime, standing: Standing) -> io::Result<()> {
-    match standing {
-        Standing::Going => rt.println("status: going"),
-        Standing::End => rt.println("status: end"),
-        Standing::Fault(fault, place) => print_fault(rt, fault, place),
+// For people, in lines.
+impl<F: Shown> fmt::Display for Outcome<'_, F> {
+    fn fmt<W: fmt::Write>(&self, f: &mut fmt::Formatter<W>) -> fmt::Result {
+        writeln!(f, "posted: {}", self.status.posted)?;
+        for figure in self.posted {
+            writeln!(f, "  {figure}")?;
+        }
+        writeln!(f, "count: {}", self.status.count)?;
+        writeln!(f, "status: {}", InWords(self.status.standing))?;
+        writeln!(f, "cells: {}", self.sizes.named)?;
+        for (cell, figure) in self.cells.iter().enumerate() {
+            writeln!(f, "  {cell}: {figure}")?;
+        }
+        Ok(())
     }
 }
 
-fn print_fault(rt: &HostRuntime, fault: RunFault, place: u64) -> io::Result<()> {
-    print_fault_place(rt, fault.number(), place)?;
-    if let Some(at) = fault.roll_place() {
-        print_roll_place(rt, at)?;
+// How a run stands, in words.
+#[derive(Clone, Copy)]
+struct InWords(Standing);
+
+impl fmt::Display for InWords {
+    fn fmt<W: fmt::Write>(&self, f: &mut fmt::Formatter<W>) -> fmt::Result {
+        match self.0 {
+            Standing::Going => f.write_str("going"),
+            Standing::End => f.write_str("end"),
+            Standing::Fault(fault, place) => {
+                write!(f, "fault {} at text byte {place}", fault.number())?;
+                if let Some(at) = fault.roll_place() {
+                    write!(f, ", roll byte {at}")?;
+                }
+                write!(f, ": {fault}")
+            }
+        }
     }
-    print_reason(rt, fault.reason())
-}
-
-fn print_fault_place(rt: &HostRuntime, number: u8, place: u64) -> io::Result<()> {
-    print!(rt; "status: fault {number} at text byte {place}")
-}
-
-fn print_roll_place(rt: &HostRuntime, at: usize) -> io::Result<()> {
-    print!(rt; ", roll byte {at}")
-}
-
-fn print_reason(rt: &HostRuntime, reason: &str) -> io::Result<()> {
-    println!(rt; ": {reason}")
 }

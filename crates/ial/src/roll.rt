@@ -1,23 +1,23 @@
 // The report of a roll file.
 
 use crate::failure::Failure;
-use crate::visible::print_line;
-use figures::fault::Fault;
+use crate::files;
+use crate::visible::Visible;
 use figures::whole::Whole;
 use places::locate;
 use rolls::leavers::LeaverFilter;
 use rolls::roll::Ending;
 use rolls::tally::{Tally, add_up};
 use rolls::text::TextRoll;
-use std::{fs, io};
+use std::fmt;
 
 pub(crate) fn report(rt: &HostRuntime, file: &str, group: Option<usize>) -> Result<(), Failure> {
-    let bytes = match fs::read(rt, file) {
-        Ok(bytes) => bytes,
-        Err(_) => return Err(Failure::Unreadable(String::from_str(rt.alloc(), file)?)),
+    let bytes = files::read(rt, file)?;
+    let report = RollReport {
+        bytes: bytes.as_slice(),
+        tally: tally(bytes.as_slice(), group)?,
     };
-    let tally = tally(bytes.as_slice(), group)?;
-    print(rt, bytes.as_slice(), &tally)?;
+    println!(rt; "{report}")?;
     Ok(())
 }
 
@@ -26,40 +26,40 @@ fn tally(bytes: &[u8], group: Option<usize>) -> Result<Tally<Whole>, Failure> {
     let mut roll = TextRoll::new(bytes);
     match group {
         None => Ok(add_up(&mut roll)),
-        Some(size) => match LeaverFilter::new(roll, size) {
-            Ok(mut filter) => Ok(add_up(&mut filter)),
-            Err(refusal) => Err(Failure::GroupSize(refusal.number())),
-        },
-    }
-}
-
-fn print(rt: &HostRuntime, bytes: &[u8], tally: &Tally<Whole>) -> io::Result<()> {
-    let count = tally.count;
-    println!(rt; "figures: {count}")?;
-    print_total(rt, tally.sum)?;
-    match tally.ending {
-        Ending::End => rt.println("ending: end"),
-        Ending::Damaged(place) => print_damage(rt, bytes, place),
-    }
-}
-
-fn print_total(rt: &HostRuntime, total: Result<Whole, Fault>) -> io::Result<()> {
-    match total {
-        Ok(sum) => {
-            let units = sum.units;
-            println!(rt; "total: {units}")
-        }
-        Err(fault) => {
-            let number = fault.number();
-            println!(rt; "total: refused {number}")
+        Some(size) => {
+            let mut filter = LeaverFilter::new(roll, size)?;
+            Ok(add_up(&mut filter))
         }
     }
 }
 
-// The place of the damage, and the line that begins there.
-fn print_damage(rt: &HostRuntime, bytes: &[u8], place: usize) -> io::Result<()> {
-    let location = locate(bytes, place);
-    let line = location.line;
-    print!(rt; "ending: damaged at byte {place} (line {line})\n  ")?;
-    print_line(rt, bytes, location)
+// What a file's roll came to.
+#[derive(Clone, Copy)]
+struct RollReport<'a> {
+    bytes: &'a [u8],
+    tally: Tally<Whole>,
+}
+
+impl fmt::Display for RollReport<'_> {
+    fn fmt<W: fmt::Write>(&self, f: &mut fmt::Formatter<W>) -> fmt::Result {
+        writeln!(f, "figures: {}", self.tally.count)?;
+        match self.tally.sum {
+            Ok(total) => writeln!(f, "total: {total}")?,
+            Err(fault) => writeln!(f, "total: refused {}", fault.number())?,
+        }
+        match self.tally.ending {
+            Ending::End => f.write_str("ending: end"),
+            // the place of the damage, and the line that begins there
+            Ending::Damaged(place) => {
+                let location = locate(self.bytes, place);
+                let line = location.line;
+                let bytes = self.bytes.get(location.start..location.end);
+                let visible = Visible(bytes.unwrap_or(&[]));
+                write!(
+                    f,
+                    "ending: damaged at byte {place} (line {line})\n  {visible}"
+                )
+            }
+        }
+    }
 }

@@ -1,12 +1,13 @@
 // A run of stored code over a roll file, in slices of steps, and its report.
 
-use crate::arguments::{KindName, RunOptions};
 use crate::failure::Failure;
-use crate::outcome::Slice;
+use crate::loaded::Loaded;
+use crate::outcome::{Outcome, Slice};
+use crate::run_arguments::{KindName, RunOptions, Setting};
 use crate::shown::Shown;
-use crate::{loaded, outcome};
-use code::check::check;
+use crate::{files, outcome};
 use code::checked::Checked;
+use code::sizes::Sizes;
 use figures::kind::{Figures, zero};
 use machine::prepare::prepare;
 use machine::ready::Ready;
@@ -17,26 +18,16 @@ use rolls::leavers::LeaverFilter;
 use rolls::roll::Roll;
 use rolls::text::TextRoll;
 use std::alloc::{AllocError, Global};
-use std::fs;
 
-pub(crate) fn report(rt: &HostRuntime, options: &RunOptions) -> Result<(), Failure> {
-    let loaded = loaded::load(rt, options.code)?;
-    let bytes = match fs::read(rt, options.roll) {
-        Ok(bytes) => bytes,
-        Err(_) => {
-            return Err(Failure::Unreadable(String::from_str(rt.alloc(), options.roll)?));
-        }
-    };
-    let mut checked = Checked::lone_halt();
-    if let Err(refusal) = check(
-        &mut checked,
-        loaded.sizes,
-        loaded.operations.as_slice(),
-        loaded.operands.as_slice(),
-    ) {
-        loaded::print_refusal(rt, refusal)?;
-        return Err(Failure::Told);
-    }
+pub(crate) fn report(
+    rt: &HostRuntime,
+    code: &str,
+    roll: &str,
+    options: &RunOptions,
+) -> Result<(), Failure> {
+    let loaded = Loaded::read(rt, code)?;
+    let bytes = files::read(rt, roll)?;
+    let checked = loaded.check()?;
     match options.kind {
         KindName::Whole => filtered(rt, options, &checked, TextRoll::new(bytes.as_slice())),
         KindName::Hundredths => filtered(rt, options, &checked, AmountRoll::new(bytes.as_slice())),
@@ -56,10 +47,10 @@ where
     let mut roll = roll;
     match options.group {
         None => run(rt, options, code, &mut roll),
-        Some(size) => match LeaverFilter::new(roll, size) {
-            Ok(mut filter) => run(rt, options, code, &mut filter),
-            Err(refusal) => Err(Failure::GroupSize(refusal.number())),
-        },
+        Some(size) => {
+            let mut filter = LeaverFilter::new(roll, size)?;
+            run(rt, options, code, &mut filter)
+        }
     }
 }
 
@@ -73,87 +64,82 @@ where
     R::Figure: Shown,
 {
     let sizes = code.sizes();
-    let mut cells = zeros::<R::Figure>(rt.alloc(), sizes.cells as usize)?;
-    let mut stack = zeros::<R::Figure>(rt.alloc(), sizes.depth as usize)?;
-    let mut book = zeros::<R::Figure>(rt.alloc(), options.book)?;
+    let mut memory = RunMemory::new(rt.alloc(), sizes, options.book)?;
     let mut ready = Ready::lone_halt();
-    if prepare(&mut ready, code, cells.as_mut_slice()).is_err() {
-        return Err(Failure::Output);
-    }
-    enter_all(options, &ready, cells.as_mut_slice())?;
+    prepare(&mut ready, code, memory.cells.as_mut_slice())?;
+    memory.enter(&ready, options.settings.as_slice())?;
     let mut running = ready.start();
-    let mut slices = Vec::new(rt.alloc());
-    advance_all(
-        rt,
-        options,
-        &mut running,
-        &mut slices,
-        cells.as_mut_slice(),
-        stack.as_mut_slice(),
-        book.as_mut_slice(),
-        roll,
-    )?;
-    outcome::print(
-        rt,
-        options.json,
+    let slices = memory.advance_all(rt, options, &mut running, roll)?;
+    let status = running.status();
+    let outcome = Outcome {
         sizes,
-        slices.as_slice(),
-        running.status(),
-        cells.as_slice(),
-        book.as_slice(),
-    )?;
+        slices: slices.as_slice(),
+        status,
+        cells: front(memory.cells.as_slice(), sizes.named as usize),
+        posted: front(memory.book.as_slice(), status.posted),
+    };
+    outcome.print(rt, options.json)?;
     Ok(())
 }
 
-// The figures that the command line gives for cells.
-fn enter_all<F: Shown>(
-    options: &RunOptions,
-    ready: &Ready<'_>,
-    cells: &mut [F],
-) -> Result<(), Failure> {
-    for setting in options.settings.iter() {
-        let Some(figure) = F::written(setting.figure) else {
-            return Err(Failure::Usage("--set takes CELL=FIGURE"));
-        };
-        if let Err(refusal) = ready.enter(cells, setting.cell, figure) {
-            return Err(Failure::Setting(refusal.number()));
-        }
-    }
-    Ok(())
+// The first so many, or all where there are fewer.
+fn front<T>(items: &[T], count: usize) -> &[T] {
+    &items[..count.min(items.len())]
 }
 
-// Advances slice by slice until the run ends or has made the steps of the limit.
-fn advance_all<R: Roll>(
-    rt: &HostRuntime,
-    options: &RunOptions,
-    running: &mut Running<'_>,
-    slices: &mut Vec<Slice>,
-    cells: &mut [R::Figure],
-    stack: &mut [R::Figure],
-    book: &mut [R::Figure],
-    roll: &mut R,
-) -> Result<(), Failure> {
-    for _ in 0..u64::MAX {
-        let status = running.status();
-        let left = options.limit.saturating_sub(status.count);
-        if status.standing != Standing::Going || left == 0 {
-            break;
-        }
-        let asked = options.steps.min(left);
-        match running.advance(asked, cells, stack, book, roll) {
-            Ok(made) => slices.push(Slice { asked, made })?,
-            Err(refusal) => return Err(Failure::Setting(refusal.number())),
-        }
-        outcome::progress(rt, running.status().count);
-    }
-    Ok(())
+// What a run is lent: its cells, its stack and its book.
+#[derive(Drop)]
+struct RunMemory<F> {
+    cells: Vec<F>,
+    stack: Vec<F>,
+    book: Vec<F>,
 }
 
-// So many figures, all of them of(0).
-fn zeros<F: Figures>(heap: Global, count: usize) -> Result<Vec<F>, AllocError> {
-    let mut figures = Vec::new(heap);
-    for _ in 0..count {
-        figures.push(zero::<F>())?;
+impl<F: Shown> RunMemory<F> {
+    fn new(heap: Global, sizes: Sizes, book: usize) -> Result<RunMemory<F>, AllocError> {
+        let nought = zero::<F>();
+        Ok(RunMemory {
+            cells: vec![in heap; nought; sizes.cells as usize]?,
+            stack: vec![in heap; nought; sizes.depth as usize]?,
+            book: vec![in heap; nought; book]?,
+        })
     }
-    Ok(figures)
+
+    // Enters the figures that the command line gives for cells.
+    fn enter(&mut self, ready: &Ready<'_>, settings: &[Setting]) -> Result<(), Failure> {
+        for setting in settings {
+            let figure = F::written(setting.figure).ok_or(Failure::Usage(
+                "--set takes CELL=FIGURE",
+            ))?;
+            ready.enter(self.cells.as_mut_slice(), setting.cell, figure)?;
+        }
+        Ok(())
+    }
+
+    // Advances slice by slice until the run ends or has made the steps of the limit.
+    fn advance_all<R: Roll<Figure = F>>(
+        &mut self,
+        rt: &HostRuntime,
+        options: &RunOptions,
+        running: &mut Running<'_>,
+        roll: &mut R,
+    ) -> Result<Vec<Slice>, Failure> {
+        let mut slices = Vec::new(rt.alloc());
+        let mut left = options.limit;
+        'slices: while left > 0 && running.status().standing == Standing::Going {
+            let asked = options.steps.get().min(left);
+            let made = running.advance(
+                asked,
+                self.cells.as_mut_slice(),
+                self.stack.as_mut_slice(),
+                self.book.as_mut_slice(),
+                roll,
+            )?;
+            slices.push(Slice { asked, made })?;
+            // a run that still goes on has made all that was asked
+            left -= asked;
+            outcome::progress(rt, running.status().count);
+        }
+        Ok(slices)
+    }
 }

@@ -1,128 +1,136 @@
 // The arguments of `run`.
 
-use crate::arguments::{KindName, RunOptions, Setting};
+use crate::arguments::Command;
 use crate::failure::Failure;
 use std::alloc::Global;
+use std::num::NonZeroU64;
+use std::str::FromStr;
 
 const USAGE: &str = "`run` takes CODE, ROLL and options";
 
-// What the word before asks for.
 #[derive(Clone, Copy)]
-enum Wanted {
-    Nothing,
-    Kind,
-    Group,
-    Book,
-    Steps,
-    Limit,
-    Set,
+pub enum KindName {
+    Whole,
+    Hundredths,
 }
 
-pub(crate) fn parse<'a>(heap: Global, words: &'a [String]) -> Result<RunOptions<'a>, Failure> {
-    let mut options = RunOptions {
-        code: "",
-        roll: "",
-        kind: KindName::Whole,
-        group: None,
-        book: 1_024,
-        steps: 1_000_000,
-        limit: 4_000_000_000,
-        json: false,
-        settings: Vec::new(heap),
-    };
-    let mut wanted = Wanted::Nothing;
-    for word in words {
-        wanted = take_word(&mut options, wanted, word.as_str())?;
+impl FromStr for KindName {
+    type Err = Failure;
+
+    fn from_str(word: &str) -> Result<KindName, Failure> {
+        match word {
+            "whole" => Ok(KindName::Whole),
+            "hundredths" => Ok(KindName::Hundredths),
+            _ => Err(Failure::Usage("--kind takes whole or hundredths")),
+        }
     }
-    match wanted {
-        Wanted::Nothing => {}
-        _ => return Err(Failure::Usage("the last option lacks its value")),
-    }
-    if options.code.is_empty() || options.roll.is_empty() {
-        return Err(Failure::Usage(USAGE));
-    }
-    Ok(options)
 }
 
-// One word: an option's name, its value, or a file.
-fn take_word<'a>(
-    options: &mut RunOptions<'a>,
-    wanted: Wanted,
-    word: &'a str,
-) -> Result<Wanted, Failure> {
-    match wanted {
-        Wanted::Nothing => return take_name(options, word),
-        Wanted::Kind => match word {
-            "whole" => options.kind = KindName::Whole,
-            "hundredths" => options.kind = KindName::Hundredths,
-            _ => return Err(Failure::Usage("--kind takes whole or hundredths")),
-        },
-        Wanted::Group => options.group = Some(number(word)?),
-        Wanted::Book => options.book = number(word)?,
-        Wanted::Steps => {
-            options.steps = number(word)? as u64;
-            if options.steps == 0 {
-                return Err(Failure::Usage("--steps takes a number from 1 on"));
+// `--set CELL=FIGURE`
+#[derive(Clone, Copy)]
+pub struct Setting<'a> {
+    pub cell: usize,
+    pub figure: &'a str,
+}
+
+impl<'a> TryFrom<&'a str> for Setting<'a> {
+    type Error = Failure;
+
+    fn try_from(word: &'a str) -> Result<Setting<'a>, Failure> {
+        let (cell, figure) = word
+            .split_once('=')
+            .ok_or(Failure::Usage("--set takes CELL=FIGURE"))?;
+        let cell = cell.parse()?;
+        Ok(Setting { cell, figure })
+    }
+}
+
+#[derive(Drop)]
+pub struct RunOptions<'a> {
+    pub kind: KindName,
+    pub group: Option<usize>,
+    // how many figures the book has room for
+    pub book: usize,
+    // steps asked for at a call
+    pub steps: NonZeroU64,
+    // steps after which the run is left
+    pub limit: u64,
+    pub json: bool,
+    pub settings: Vec<Setting<'a>>,
+}
+
+impl<'a> RunOptions<'a> {
+    // What holds where no option says otherwise.
+    fn new(heap: Global) -> RunOptions<'a> {
+        RunOptions {
+            kind: KindName::Whole,
+            group: None,
+            book: 1_024,
+            steps: NonZeroU64::new(1_000_000).unwrap(),
+            limit: 4_000_000_000,
+            json: false,
+            settings: Vec::new(heap),
+        }
+    }
+
+    // Takes an option of this name and value.
+    fn take(&mut self, name: &str, value: &'a str) -> Result<(), Failure> {
+        match name {
+            "--kind" => self.kind = value.parse()?,
+            "--group" => self.group = Some(value.parse()?),
+            "--book" => self.book = value.parse()?,
+            "--steps" => {
+                self.steps = NonZeroU64::new(value.parse()?).ok_or(Failure::Usage(
+                    "--steps takes a number from 1 on",
+                ))?;
             }
+            "--limit" => self.limit = value.parse()?,
+            _ => self.settings.push(Setting::try_from(value)?)?,
         }
-        Wanted::Limit => options.limit = number(word)? as u64,
-        Wanted::Set => take_setting(options, word)?,
-    }
-    Ok(Wanted::Nothing)
-}
-
-// A word that is no value: an option's name or a file.
-fn take_name<'a>(options: &mut RunOptions<'a>, word: &'a str) -> Result<Wanted, Failure> {
-    if word == "--json" {
-        options.json = true;
-        return Ok(Wanted::Nothing);
-    }
-    match wanted_by(word) {
-        Wanted::Nothing => take_file(options, word)?,
-        wanted => return Ok(wanted),
-    }
-    Ok(Wanted::Nothing)
-}
-
-// What an option with a value asks for.
-fn wanted_by(word: &str) -> Wanted {
-    match word {
-        "--kind" => Wanted::Kind,
-        "--group" => Wanted::Group,
-        "--book" => Wanted::Book,
-        "--steps" => Wanted::Steps,
-        "--limit" => Wanted::Limit,
-        "--set" => Wanted::Set,
-        _ => Wanted::Nothing,
+        Ok(())
     }
 }
 
-// The code's file first, then the roll's.
-fn take_file<'a>(options: &mut RunOptions<'a>, word: &'a str) -> Result<(), Failure> {
-    if options.code.is_empty() {
-        options.code = word;
-    } else if options.roll.is_empty() {
-        options.roll = word;
-    } else {
+// The words after `run`: the code's file first, then the roll's, and options wherever they stand.
+pub(crate) fn parse<'a>(heap: Global, words: &[&'a str]) -> Result<Command<'a>, Failure> {
+    let mut options = RunOptions::new(heap);
+    let mut code = None;
+    let mut roll = None;
+    let mut words = words;
+    'words: loop {
+        words = match words {
+            [] => break,
+            ["--json", rest @ ..] => {
+                options.json = true;
+                rest
+            }
+            [
+                name @ ("--kind" | "--group" | "--book" | "--steps" | "--limit" | "--set"),
+                after @ ..,
+            ] => {
+                let [value, rest @ ..] = after else {
+                    return Err(Failure::Usage("the last option lacks its value"));
+                };
+                options.take(name, value)?;
+                rest
+            }
+            [file, rest @ ..] => {
+                let place = if code.is_none() { &mut code } else { &mut roll };
+                if place.is_some() {
+                    return Err(Failure::Usage(USAGE));
+                }
+                // an empty word names no file
+                *place = Some(*file).filter(|file| !file.is_empty());
+                rest
+            }
+        };
+    }
+    let (Some(code), Some(roll)) = (code, roll) else {
         return Err(Failure::Usage(USAGE));
-    }
-    Ok(())
-}
-
-fn take_setting<'a>(options: &mut RunOptions<'a>, word: &'a str) -> Result<(), Failure> {
-    match word.split_once('=') {
-        Some((cell, figure)) => {
-            let cell = number(cell)?;
-            options.settings.push(Setting { cell, figure })?;
-            Ok(())
-        }
-        None => Err(Failure::Usage("--set takes CELL=FIGURE")),
-    }
-}
-
-fn number(word: &str) -> Result<usize, Failure> {
-    match word.parse::<usize>() {
-        Ok(n) => Ok(n),
-        Err(_) => Err(Failure::NoNumber),
-    }
+    };
+    Ok(Command::Run {
+        code,
+        roll,
+        options,
+    })
 }

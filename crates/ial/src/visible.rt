@@ -1,23 +1,22 @@
 // A line of a file as a person can read it.
 
-use places::Location;
-use std::io;
+use std::fmt;
 
 // At most so many bytes of a line are shown.
 const WIDTH: usize = 72;
 
-// The line of a location: printable ASCII as it stands, any other byte by its number, and a long line cut off.
-pub(crate) fn print_line(rt: &HostRuntime, text: &[u8], location: Location) -> io::Result<()> {
-    let length = location.end.saturating_sub(location.start);
-    for b in text.iter().skip(location.start).take(length.min(WIDTH)) {
-        print_byte(rt, *b)?;
-    }
-    rt.println(if length > WIDTH { "..." } else { "" })
-}
+// Printable ASCII as it stands, any other byte by its number, and a long line cut off.
+#[derive(Clone, Copy)]
+pub(crate) struct Visible<'a>(pub &'a [u8]);
 
-fn print_byte(rt: &HostRuntime, byte: u8) -> io::Result<()> {
-    match byte {
-        b' '..=b'~' => rt.print(char::from(byte)),
-        _ => print!(rt; "\\x{byte:02x}"),
+impl fmt::Display for Visible<'_> {
+    fn fmt<W: fmt::Write>(&self, f: &mut fmt::Formatter<W>) -> fmt::Result {
+        for byte in self.0.iter().take(WIDTH) {
+            match byte {
+                b' '..=b'~' => f.write_char(char::from(*byte))?,
+                _ => write!(f, "\\x{byte:02x}")?,
+            }
+        }
+        f.write_str(if self.0.len() > WIDTH { "..." } else { "" })
     }
 }
