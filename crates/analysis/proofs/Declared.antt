@@ -7,7 +7,7 @@ use Rattle.parser.specs.Records.{View, Named, NameAt, GroupAt, RowAt, Item_at}
 use Rattle.grammar.specs.Tree.{Row, one, Name, Group, value_of, Item, action}
 use Rattle.symbols.specs.Occurrences.{as_label, as_switch, of_type, in_switch, as_variable, Occurrence, at, each, all_at, in_exp, in_element, in_group, in_item}
 use Rattle.analysis.specs.declared.symbol.NameRecord.{NameRecord}
-use Rattle.analysis.specs.declared.declaration.Pass.{Pass}
+use Rattle.analysis.specs.Heeding.{Pass}
 use Rattle.analysis.specs.Earliest.{earlier_of}
 use Rattle.analysis.specs.Heeding.{Heeds}
 use Rattle.analysis.proofs.Said.{Silent}

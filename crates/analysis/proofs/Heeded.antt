@@ -7,8 +7,8 @@ use Rattle.symbols.specs.Symbols.{Kind, definition, declared_type, first_said, o
 use Rattle.symbols.specs.Types.{told}
 use Rattle.symbols.specs.Rules.{is_some, target, defines_again, second_definitions}
 use Rattle.analysis.specs.declared.symbol.NameRecord.{NameRecord}
-use Rattle.analysis.specs.declared.declaration.Pass.{Pass}
-use Rattle.analysis.specs.declared.declaration.Pass.TheVariants.{Mark, Declare}
+use Rattle.analysis.specs.Heeding.{Pass}
+use Rattle.analysis.specs.Heeding.{marking, declaring}
 use Rattle.analysis.specs.Earliest.{earliest_of, earlier_of}
 use Rattle.analysis.specs.SymbolTable.{KindAt}
 use Rattle.analysis.specs.Lines.{LineSoFar}
@@ -42,12 +42,12 @@ silent_same_heeded : (p : List Occurrence) → Silent p → (m h : List Occurren
 silent_same_heeded p s m h y = record { targets = refl; definitions = sym (said_before definition use_defines_nothing h p y s); types = sym (said_before declared_type use_types_nothing h p y s) }
 
 table_stays : (p : Pass) (v : View) (ns : List Name) (whole before os : List Occurrence) (lines : List NameRecord) → Silent os → TableAt p v ns whole before lines → TableAt p v ns whole (before ++ os) lines
-table_stays Mark v ns whole before os lines s t = record { room = t.room; line = λ k d e h. line_stays (silent_same os s before [] (get_or ns k e).letters) (t.line k d e h) }
-table_stays Declare v ns whole before os lines s t = record { room = t.room; line = λ k d e h. line_stays (silent_same_heeded os s whole before (get_or ns k e).letters) (t.line k d e h) }
+table_stays marking v ns whole before os lines s t = record { room = t.room; line = λ k d e h. line_stays (silent_same os s before [] (get_or ns k e).letters) (t.line k d e h) }
+table_stays declaring v ns whole before os lines s t = record { room = t.room; line = λ k d e h. line_stays (silent_same_heeded os s whole before (get_or ns k e).letters) (t.line k d e h) }
 
 silent_told_in : (p : Pass) (whole before os : List Occurrence) → Silent os → told_in p whole before os ≡ []
-silent_told_in Mark whole before os s = refl
-silent_told_in Declare whole before os s = silent_told whole before os s
+silent_told_in marking whole before os s = refl
+silent_told_in declaring whole before os s = silent_told whole before os s
 
 -- What is told of two parts.
 second_append : (whole before os ps : List Occurrence) → second_definitions whole before (os ++ ps) ≡ second_definitions whole before os ++ second_definitions whole (before ++ os) ps
@@ -60,8 +60,8 @@ second_append whole before (o ∷ os) ps =
     ∙ sym (append_assoc t (second_definitions whole b os) (second_definitions whole (before ++ o ∷ os) ps)))
 
 told_append : (p : Pass) (whole before os ps : List Occurrence) → told_in p whole before (os ++ ps) ≡ told_in p whole before os ++ told_in p whole (before ++ os) ps
-told_append Mark whole before os ps = refl
-told_append Declare whole before os ps = second_append whole before os ps
+told_append marking whole before os ps = refl
+told_append declaring whole before os ps = second_append whole before os ps
 
 earlier_none : (r : Option ℕ) → earlier_of r None ≡ r
 earlier_none (Some q) = refl

@@ -6,6 +6,7 @@ pub mod Searching
 pub mod LineSearching
 pub mod NameLines
 pub mod Stands
+pub mod Found
 pub mod ExpNodes
 pub mod ExpRows
 pub mod ItemNodes

@@ -16,13 +16,13 @@ use Rattle.analysis.specs.declared.symbol.NameKind.TheVariants.{Label, Switch, A
 use Rattle.analysis.specs.declared.symbol.NameRecord.{NameRecord}
 use Rattle.analysis.specs.declared.declaration.Declaration.{Declaration}
 use Rattle.analysis.specs.declared.declaration.Declaration.TheVariants.{Defined, Typed}
-use Rattle.analysis.specs.declared.declaration.Pass.{Pass}
-use Rattle.analysis.specs.declared.declaration.Pass.TheVariants.{Mark, Declare}
+use Rattle.analysis.specs.Heeding.{Pass}
+use Rattle.analysis.specs.Heeding.{marking, declaring}
 use Rattle.analysis.specs.Earliest.{earliest_of}
 use Rattle.analysis.specs.SymbolTable.{KindAt, label as label_line, switch as switch_line, array as array_line}
 use Rattle.analysis.specs.Kinds.{is_defined_kind, is_target_kind, is_typed_as}
 use Rattle.analysis.specs.Lines.{line_of, NumberedWords, LineSoFar, SoFar}
-use Rattle.analysis.specs.Heeding.{marked_line, declared_line, offends_line, RoleAt, label, switch, array, integer, boolean, TableAt, Heeds}
+use Rattle.analysis.specs.Heeding.{marked_line, declared_line, offends_line, heeded_in, offends_in, RoleAt, label, switch, array, integer, boolean, TableAt, Heeds}
 use Rattle.analysis.proofs.Said.{or_none, some_or, said_own, said_other}
 use Rattle.analysis.proofs.LineOf.{known_line}
 use Rattle.analysis.proofs.Heeded.{SameSaid, line_stays}
@@ -133,6 +133,10 @@ module _ {v : View} {m h : List Occurrence} {r : NameRecord} {n : Name} (x : Nam
   offends_right integer = typed_here
   offends_right boolean = typed_here
 
+told_only : (b : Bool) (q : ℕ) → earliest_of (told b q) ≡ cond b (Some q) None
+told_only true q = refl
+told_only false q = refl
+
 told_one : (b : Bool) (q : ℕ) → earliest_of (told b q ++ []) ≡ cond b (Some q) None
 told_one true q = refl
 told_one false q = refl
@@ -159,7 +163,7 @@ module _ {v : View} {rs : List Record} {ns : List Name} (numbered : NumberedWord
           one_line : (j : ℕ) → line_of ns x.letters ≡ Some j → j ≡ k
           one_line j a = cc
 
-  pub marks : {p : Pass} {d : Declaration} {role : Role} {whole : List Occurrence} (lines : List NameRecord) → p ≡ Mark → RoleAt v d role → (e : NameRecord) (new : NameRecord) → new ≡ marked_line d (get_or lines k e) → Heeds p v ns whole (at role x ∷ []) lines (set lines k new) None
+  pub marks : {p : Pass} {d : Declaration} {role : Role} {whole : List Occurrence} (lines : List NameRecord) → p ≡ marking → RoleAt v d role → (e : NameRecord) (new : NameRecord) → new ≡ marked_line d (get_or lines k e) → Heeds p v ns whole (at role x ∷ []) lines (set lines k new) None
   marks {p} {d} {role} {whole} lines in-pass at_role e new is =
       let P : Pass → Type 0 = λ q. Heeds q v ns whole (at role x ∷ []) lines (set lines k new) None in
       let known = known_line ns x.letters k number in
@@ -172,7 +176,7 @@ module _ {v : View} {rs : List Record} {ns : List Name} (numbered : NumberedWord
         told = λ before t. refl;
       }
 
-  pub declares : {p : Pass} {d : Declaration} {role : Role} {whole : List Occurrence} (lines : List NameRecord) → p ≡ Declare → RoleAt v d role → (e : NameRecord) (new : NameRecord) → new ≡ declared_line d (get_or lines k e) → (r : Option ℕ) → r ≡ cond (offends_line d (get_or lines k e)) (Some x.place) None → Heeds p v ns whole (at role x ∷ []) lines (set lines k new) r
+  pub declares : {p : Pass} {d : Declaration} {role : Role} {whole : List Occurrence} (lines : List NameRecord) → p ≡ declaring → RoleAt v d role → (e : NameRecord) (new : NameRecord) → new ≡ declared_line d (get_or lines k e) → (r : Option ℕ) → r ≡ cond (offends_line d (get_or lines k e)) (Some x.place) None → Heeds p v ns whole (at role x ∷ []) lines (set lines k new) r
   declares {p} {d} {role} {whole} lines in-pass at_role e new is r result =
       let P : Pass → Type 0 = λ q. Heeds q v ns whole (at role x ∷ []) lines (set lines k new) r in
       let known = known_line ns x.letters k number in
@@ -188,7 +192,14 @@ module _ {v : View} {rs : List Record} {ns : List Name} (numbered : NumberedWord
             ∙ sym (told_one (defines_again whole before x.letters role) x.place));
       }
 
+  -- What either pass does to the line of a name, and tells.
+  pub heeds : (p : Pass) {d : Declaration} {role : Role} {whole : List Occurrence} (lines : List NameRecord) → RoleAt v d role → (e new : NameRecord) → new ≡ heeded_in p d (get_or lines k e) → (r : Option ℕ) → r ≡ earliest_of (told (offends_in p d (get_or lines k e)) x.place) → Heeds p v ns whole (at role x ∷ []) lines (set lines k new) r
+  heeds marking {d} {role} {whole} lines at_role e new is r result =
+      let H : Option ℕ → Type 0 = λ q. Heeds marking v ns whole (at role x ∷ []) lines (set lines k new) q in
+      subst H (sym result) (marks lines refl at_role e new is)
+  heeds declaring {d} lines at_role e new is r result = declares lines refl at_role e new is r (result ∙ told_only (offends_line d (get_or lines k e)) x.place)
+
 -- The line of a name lies in the table.
 pub no_room : (p : Pass) (v : View) (ns : List Name) (whole before : List Occurrence) (lines : List NameRecord) (x : List ℕ) (k : ℕ) → line_of ns x ≡ Some k → TableAt p v ns whole before lines → length lines ≤ k → ⊥
-no_room Mark v ns whole before lines x k number t l = let w = (known_line ns x k number).within in let o = t.room in omega arith
-no_room Declare v ns whole before lines x k number t l = let w = (known_line ns x k number).within in let o = t.room in omega arith
+no_room marking v ns whole before lines x k number t l = let w = (known_line ns x k number).within in let o = t.room in omega arith
+no_room declaring v ns whole before lines x k number t l = let w = (known_line ns x k number).within in let o = t.room in omega arith

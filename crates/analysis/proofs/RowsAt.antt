@@ -8,7 +8,7 @@ use Rattle.symbols.specs.Occurrences.{Role, as_array, Occurrence, each}
 use Rattle.analysis.specs.declared.symbol.NameKind.TheVariants.{Array}
 use Rattle.analysis.specs.declared.symbol.NameRecord.{NameRecord}
 use Rattle.analysis.specs.declared.declaration.Declaration.TheVariants.{Defined}
-use Rattle.analysis.specs.declared.declaration.Pass.{Pass}
+use Rattle.analysis.specs.Heeding.{Pass}
 use Rattle.analysis.specs.Earliest.{earlier_of}
 use Rattle.analysis.specs.Heeding.{RoleAt, array, Heeds}
 use Rattle.analysis.proofs.Heeded.{heeds_two}

@@ -1,6 +1,6 @@
 -- What it is to heed the declarations of a part of a tree: the name table said what the occurrences before the part say,
 -- and now says what they and those of the part say; told is the earliest declaration of the part that is one too many.
-use Rattle.std.specs.Prelude.{◌≡◌, ℕ, Bool, cond, ◌||◌, List, [], ◌∷◌, ◌++◌, Option}
+use Rattle.std.specs.Prelude.{◌≡◌, ℕ, Bool, false, cond, ◌||◌, List, [], ◌∷◌, ◌++◌, Option}
 use Rattle.grammar.specs.Tree.{Row, Name, Group, Item}
 use Rattle.parser.specs.declared.node.Bound.{Bound as BoundRecord}
 use Rattle.parser.specs.declared.table.Record.{Record}
@@ -12,11 +12,14 @@ use Rattle.analysis.specs.declared.symbol.NameKind.TheVariants.{Label, Switch, A
 use Rattle.analysis.specs.declared.symbol.NameRecord.{NameRecord}
 use Rattle.analysis.specs.declared.declaration.Declaration.{Declaration}
 use Rattle.analysis.specs.declared.declaration.Declaration.TheVariants.{Defined, Typed}
-use Rattle.analysis.specs.declared.declaration.Pass.{Pass}
-use Rattle.analysis.specs.declared.declaration.Pass.TheVariants.{Mark, Declare}
 use Rattle.analysis.specs.Earliest.{earliest_of}
 use Rattle.analysis.specs.Kinds.{is_defined_kind, is_target_kind, is_typed_as}
 use Rattle.analysis.specs.Lines.{NumberedWords, SoFar}
+
+-- The two passes over a tree: labels and switches are marked, and then each name is declared.
+pub data Pass : Type 0 where
+  marking : Pass
+  declaring : Pass
 
 -- A line with a declaration marked.
 abbrev pub marked_line : Declaration → NameRecord → NameRecord
@@ -33,6 +36,15 @@ abbrev pub offends_line : Declaration → NameRecord → Bool
 offends_line (Defined k) r = is_defined_kind r.kind
 offends_line (Typed t) r = is_typed_as r.value_type || r.target
 
+-- What a pass makes of a line, and whether it tells the declaration.
+abbrev pub heeded_in : Pass → Declaration → NameRecord → NameRecord
+heeded_in marking d r = marked_line d r
+heeded_in declaring d r = declared_line d r
+
+abbrev pub offends_in : Pass → Declaration → NameRecord → Bool
+offends_in marking d r = false
+offends_in declaring d r = offends_line d r
+
 -- The role in which a name is declared.
 pub data RoleAt (v : View) : Declaration → Role → Type 0 where
   label : RoleAt v (Defined Label) as_label
@@ -44,13 +56,13 @@ pub data RoleAt (v : View) : Declaration → Role → Type 0 where
 -- What the table says in each pass, where the occurrences os are behind: first labels and switches are marked; then,
 -- with those of the whole text marked, declarations are heeded.
 abbrev pub TableAt : Pass → View → List Name → (whole os : List Occurrence) → List NameRecord → Type 0
-TableAt Mark v ns whole os lines = SoFar v ns os [] lines
-TableAt Declare v ns whole os lines = SoFar v ns whole os lines
+TableAt marking v ns whole os lines = SoFar v ns os [] lines
+TableAt declaring v ns whole os lines = SoFar v ns whole os lines
 
 -- The declarations that are one too many are told in the second pass.
 abbrev pub told_in : Pass → (whole before os : List Occurrence) → List ℕ
-told_in Mark whole before os = []
-told_in Declare whole before os = second_definitions whole before os
+told_in marking whole before os = []
+told_in declaring whole before os = second_definitions whole before os
 
 pub record Heeds (p : Pass) (v : View) (ns : List Name) (whole os : List Occurrence) (lines lines' : List NameRecord) (r : Option ℕ) : Type 0 where
   pub table : (before : List Occurrence) → TableAt p v ns whole before lines → TableAt p v ns whole (before ++ os) lines'

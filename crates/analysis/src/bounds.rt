@@ -9,7 +9,8 @@ ghost use Rattle.symbols.specs.Rules.{bounds_ok, group_bounds, item_bounds};
 ghost use Rattle.analysis.specs.Earliest.{earliest_of};
 ghost use Rattle.parser.specs.Records.{nodes as nodes_of};
 
-use crate::earliest::earlier;
+use crate::earliest::{earlier, told};
+use crate::ordered::ordered_node;
 use crate::tree::node_of;
 use parser::node::{Bound, Node};
 use parser::table::Record;
@@ -37,13 +38,7 @@ fn group_offence(records: &[Record], i: usize) -> Option<usize>
     ensures { (v : View) (g : GroupTree) → v.nodes ≡ nodes_of records.now → GroupAt v g i → result ≡ earliest_of (group_bounds g) }
 {
     match node_of(records, i) {
-        Node::Group(_, bracket, low, high) => {
-            if are_bounds_ok(low, high) {
-                None
-            } else {
-                Some(bracket)
-            }
-        }
+        Node::Group(_, bracket, low, high) => told(!are_bounds_ok(low, high), bracket),
         _ => None,
     }
 }
@@ -52,17 +47,11 @@ fn group_offence(records: &[Record], i: usize) -> Option<usize>
 fn groups_offence(records: &[Record], i: usize) -> Option<usize>
     ensures { (v : View) (gs : Row GroupTree) → v.nodes ≡ nodes_of records.now → RowAt GroupAt v gs i → result ≡ earliest_of (each group_bounds gs) }
 {
-    match node_of(records, i) {
-        Node::More(before, last) => {
-            if before < i {
-                earlier(
-                    groups_offence(records, before),
-                    group_offence(records, last),
-                )
-            } else {
-                None
-            }
-        }
+    match ordered_node(records, i) {
+        Node::More(before, last) => earlier(
+            groups_offence(records, before),
+            group_offence(records, last),
+        ),
         _ => group_offence(records, i),
     }
 }
@@ -71,17 +60,11 @@ fn groups_offence(records: &[Record], i: usize) -> Option<usize>
 pub fn bounds_offence(records: &[Record], i: usize) -> Option<usize>
     ensures { (v : View) (t : Row ItemTree) → v.nodes ≡ nodes_of records.now → RowAt Item_at v t i → result ≡ earliest_of (each item_bounds t) }
 {
-    match node_of(records, i) {
-        Node::More(before, last) => {
-            if before < i && last < i {
-                earlier(
-                    bounds_offence(records, before),
-                    bounds_offence(records, last),
-                )
-            } else {
-                None
-            }
-        }
+    match ordered_node(records, i) {
+        Node::More(before, last) => earlier(
+            bounds_offence(records, before),
+            bounds_offence(records, last),
+        ),
         Node::Array(groups) => groups_offence(records, groups),
         _ => None,
     }

@@ -9,11 +9,3 @@ pub enum Declaration {
     Defined(NameKind),
     Typed(ValueType),
 }
-
-// The tree is gone through twice: first labels and switches are marked, wherever they stand, then each name is declared,
-// in the order of the text.
-#[derive(Clone, Copy, PartialEq, Eq, Debug)]
-pub enum Pass {
-    Mark,
-    Declare,
-}

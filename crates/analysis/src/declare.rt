@@ -2,175 +2,106 @@
 
 ghost use Rattle.analysis.specs.Heeding.{DeclaresName, DeclaresRow, DeclaresGroups, DeclaresItems};
 
-use crate::declaration::{Declaration, Pass};
-use crate::earliest::earlier;
-use crate::heed::{declared_line, marked_line, offends_line};
+use crate::declaration::Declaration;
+use crate::earliest::{earlier, told};
 use crate::lines::{number_of, place_of};
+use crate::ordered::ordered_node;
+use crate::pass::Pass;
 use crate::symbol::{NameKind, NameRecord};
-use crate::tree::node_of;
 use parser::node::Node;
 use parser::table::Record;
 use symbols::value_type::ValueType;
 
 // Heeds a declaration of the name that is word w.
-fn declare(
+fn declare<P: Pass>(
     records: &[Record],
     names: &mut [NameRecord],
     w: usize,
     d: Declaration,
-    pass: Pass,
 ) -> Option<usize>
-    ensures { DeclaresName pass records.now w d names.old names.new result }
+    ensures { DeclaresName P.kind records.now w d names.old names.new result }
 {
     let k = number_of(records, w);
     if k < names.len() {
-        let line = names[k];
-        match pass {
-            Pass::Mark => {
-                names[k] = marked_line(line, d);
-                None
-            }
-            Pass::Declare => {
-                names[k] = declared_line(line, d);
-                if offends_line(line, d) {
-                    Some(place_of(records, w))
-                } else {
-                    None
-                }
-            }
-        }
+        told(P::heed(&mut names[k], d), place_of(records, w))
     } else {
         None
     }
 }
 
 // Heeds a declaration of the names at node i.
-fn declare_row(
+fn declare_row<P: Pass>(
     records: &[Record],
     names: &mut [NameRecord],
     i: usize,
     d: Declaration,
-    pass: Pass,
 ) -> Option<usize>
-    ensures { DeclaresRow pass records.now i d names.old names.new result }
+    ensures { DeclaresRow P.kind records.now i d names.old names.new result }
 {
-    match node_of(records, i) {
+    match ordered_node(records, i) {
         Node::More(before, last) => {
-            if before < i && last < i {
-                let a = declare_row(records, names, before, d, pass);
-                let b = declare_row(records, names, last, d, pass);
-                earlier(a, b)
-            } else {
-                None
-            }
+            let a = declare_row::<P>(records, names, before, d);
+            let b = declare_row::<P>(records, names, last, d);
+            earlier(a, b)
         }
-        Node::Simple(w) => declare(records, names, w, d, pass),
+        Node::Simple(w) => declare::<P>(records, names, w, d),
         _ => None,
     }
 }
 
 // Heeds the array declarations of the groups at node i.
-fn declare_groups(
-    records: &[Record],
-    names: &mut [NameRecord],
-    i: usize,
-    pass: Pass,
-) -> Option<usize>
-    ensures { DeclaresGroups pass records.now i names.old names.new result }
+fn declare_groups<P: Pass>(records: &[Record], names: &mut [NameRecord], i: usize) -> Option<usize>
+    ensures { DeclaresGroups P.kind records.now i names.old names.new result }
 {
-    match node_of(records, i) {
+    match ordered_node(records, i) {
         Node::More(before, last) => {
-            if before < i && last < i {
-                let a = declare_groups(records, names, before, pass);
-                let b = declare_groups(records, names, last, pass);
-                earlier(a, b)
-            } else {
-                None
-            }
+            let a = declare_groups::<P>(records, names, before);
+            let b = declare_groups::<P>(records, names, last);
+            earlier(a, b)
         }
         Node::Group(row, _, low, high) => {
-            declare_row(
-                records,
-                names,
-                row,
-                Declaration::Defined(NameKind::Array(low, high)),
-                pass,
-            )
+            let array = Declaration::Defined(NameKind::Array(low, high));
+            declare_row::<P>(records, names, row, array)
         }
         _ => None,
     }
 }
 
 // Heeds the declarations of the items at node i, and tells the earliest that is one too many.
-pub(crate) fn declare_all(
+pub(crate) fn declare_all<P: Pass>(
     records: &[Record],
     names: &mut [NameRecord],
     i: usize,
-    pass: Pass,
 ) -> Option<usize>
-    ensures { DeclaresItems pass records.now i names.old names.new result }
+    ensures { DeclaresItems P.kind records.now i names.old names.new result }
 {
-    match node_of(records, i) {
+    match ordered_node(records, i) {
         Node::More(before, last) => {
-            if before < i && last < i {
-                let a = declare_all(records, names, before, pass);
-                let b = declare_all(records, names, last, pass);
-                earlier(a, b)
-            } else {
-                None
-            }
+            let a = declare_all::<P>(records, names, before);
+            let b = declare_all::<P>(records, names, last);
+            earlier(a, b)
         }
         Node::Labelled(w, body) => {
-            if body < i {
-                let a = declare(
-                    records,
-                    names,
-                    w,
-                    Declaration::Defined(NameKind::Label),
-                    pass,
-                );
-                let b = declare_all(records, names, body, pass);
-                earlier(a, b)
-            } else {
-                None
-            }
+            let label = Declaration::Defined(NameKind::Label);
+            let a = declare::<P>(records, names, w, label);
+            let b = declare_all::<P>(records, names, body);
+            earlier(a, b)
         }
-        Node::Conditional(_, _, body) => {
-            if body < i {
-                declare_all(records, names, body, pass)
-            } else {
-                None
-            }
+        Node::Conditional(_, _, body) => declare_all::<P>(records, names, body),
+        Node::Repeated(_, _, _, body) => declare_all::<P>(records, names, body),
+        Node::Array(groups) => declare_groups::<P>(records, names, groups),
+        Node::Switch(w, row) => {
+            let switch = Declaration::Defined(NameKind::Switch(row));
+            declare::<P>(records, names, w, switch)
         }
-        Node::Repeated(_, _, _, body) => {
-            if body < i {
-                declare_all(records, names, body, pass)
-            } else {
-                None
-            }
+        Node::Integer(row) => {
+            let integer = Declaration::Typed(ValueType::Integer);
+            declare_row::<P>(records, names, row, integer)
         }
-        Node::Array(groups) => declare_groups(records, names, groups, pass),
-        Node::Switch(w, row) => declare(
-            records,
-            names,
-            w,
-            Declaration::Defined(NameKind::Switch(row)),
-            pass,
-        ),
-        Node::Integer(row) => declare_row(
-            records,
-            names,
-            row,
-            Declaration::Typed(ValueType::Integer),
-            pass,
-        ),
-        Node::Boolean(row) => declare_row(
-            records,
-            names,
-            row,
-            Declaration::Typed(ValueType::Boolean),
-            pass,
-        ),
+        Node::Boolean(row) => {
+            let boolean = Declaration::Typed(ValueType::Boolean);
+            declare_row::<P>(records, names, row, boolean)
+        }
         _ => None,
     }
 }

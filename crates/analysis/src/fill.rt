@@ -3,12 +3,12 @@
 ghost use Rattle.analysis.specs.Filling.{Fills};
 
 use crate::cells::place_cells;
-use crate::declaration::Pass;
 use crate::declare::declare_all;
 use crate::earliest::earlier;
 use crate::fors::count_fors;
 use crate::name_table::NameTable;
 use crate::numbering::number_names;
+use crate::pass::{Declare, Mark};
 use crate::symbol::NameRecord;
 use parser::table::Record;
 
@@ -27,8 +27,8 @@ pub fn fill_names(
     ensures { Fills text.now count root records.old records.new names.old names.new result }
 {
     let lines = number_names(text, records, count, names);
-    let _marked = declare_all(records, names, root, Pass::Mark);
-    let second = declare_all(records, names, root, Pass::Declare);
+    let _marked = declare_all::<Mark>(records, names, root);
+    let second = declare_all::<Declare>(records, names, root);
     let used = lines.min(MOST_LINES);
     let named = place_cells(records, &mut names[0..used]);
     let all = count_fors(records, root, named.cells);

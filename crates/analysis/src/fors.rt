@@ -5,7 +5,7 @@ ghost use Rattle.analysis.specs.Counting.{CountsItems};
 use crate::cell_count::CellCount;
 use crate::cells::passing;
 use crate::earliest::earlier;
-use crate::tree::node_of;
+use crate::ordered::ordered_node;
 use parser::node::Node;
 use parser::table::Record;
 
@@ -13,54 +13,22 @@ use parser::table::Record;
 pub(crate) fn count_fors(records: &[Record], i: usize, c: usize) -> CellCount
     ensures { CountsItems records.now i c result }
 {
-    match node_of(records, i) {
+    match ordered_node(records, i) {
         Node::More(before, last) => {
-            if before < i && last < i {
-                let a = count_fors(records, before, c);
-                let b = count_fors(records, last, a.cells);
-                CellCount {
-                    cells: b.cells,
-                    offence: earlier(a.offence, b.offence),
-                }
-            } else {
-                CellCount {
-                    cells: c,
-                    offence: None,
-                }
+            let a = count_fors(records, before, c);
+            let b = count_fors(records, last, a.cells);
+            CellCount {
+                cells: b.cells,
+                offence: earlier(a.offence, b.offence),
             }
         }
-        Node::Labelled(_, body) => {
-            if body < i {
-                count_fors(records, body, c)
-            } else {
-                CellCount {
-                    cells: c,
-                    offence: None,
-                }
-            }
-        }
-        Node::Conditional(_, _, body) => {
-            if body < i {
-                count_fors(records, body, c)
-            } else {
-                CellCount {
-                    cells: c,
-                    offence: None,
-                }
-            }
-        }
+        Node::Labelled(_, body) => count_fors(records, body, c),
+        Node::Conditional(_, _, body) => count_fors(records, body, c),
         Node::Repeated(place, _, _, body) => {
-            if body < i {
-                let b = count_fors(records, body, c.min(2048) + 1);
-                CellCount {
-                    cells: b.cells,
-                    offence: earlier(passing(c, 1, place), b.offence),
-                }
-            } else {
-                CellCount {
-                    cells: c,
-                    offence: None,
-                }
+            let b = count_fors(records, body, c.min(2048) + 1);
+            CellCount {
+                cells: b.cells,
+                offence: earlier(passing(c, 1, place), b.offence),
             }
         }
         _ => CellCount {

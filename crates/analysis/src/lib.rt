@@ -23,6 +23,7 @@ mod numbering;
 pub mod offence;
 mod ordered;
 mod part_type;
+mod pass;
 pub mod search;
 pub mod symbol;
 pub mod tables;

@@ -1,4 +1,4 @@
 use Rattle.analysis.proofs.declare.+declare_groups.Given as goal
 
 abbrev pub decreases-declare_groups : goal.decreases-declare_groups
-decreases-declare_groups l = l.i
+decreases-declare_groups g l = l.i

@@ -1,4 +1,4 @@
 use Rattle.analysis.proofs.declare.+declare_row.Given as goal
 
 abbrev pub decreases-declare_row : goal.decreases-declare_row
-decreases-declare_row l = l.i
+decreases-declare_row g l = l.i
