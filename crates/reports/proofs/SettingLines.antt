@@ -1,6 +1,5 @@
 -- The line that is found for a name gives its cell.
 use Rattle.std.proofs.Common.{◌≡◌, ℕ, Bool, true, false, cond, List, [], ◌∷◌, ℤ, None, Some, Ok, Err, Option, Result, refl, ap, sym, ◌∙◌}
-use Rattle.std.specs.List.{find}
 use Rattle.std.specs.Option.{ok_or}
 use Rattle.std.specs.Str.{bytes_eq}
 use Rattle.parser.specs.declared.table.Record.{Record}

@@ -7,6 +7,7 @@ ghost use Rattle.reports.specs.Excerpts.{blanks_for, CaretLawOf, excerpt_of, par
 ghost use Rattle.reports.specs.Reasons.{reason_of};
 ghost use Rattle.reports.specs.Windows.{window_of, WindowLaw};
 
+use crate::each::write_each;
 use crate::part::part;
 use crate::worded::Worded;
 use places::locate;
@@ -74,10 +75,7 @@ impl fmt::Display for ShownBytes<'_> {
     ghost output = { λ l. Some (flat_map shown_byte l.0.now) };
 
     fn fmt<W: fmt::Write>(&self, f: &mut fmt::Formatter<W>) -> fmt::Result {
-        for byte in self.0 {
-            write!(f, "{}", Shown(*byte))?;
-        }
-        Ok(())
+        write_each(f, self.0, Shown)
     }
 }
 
@@ -89,10 +87,7 @@ impl fmt::Display for BlankBytes<'_> {
     ghost output = { λ l. Some (flat_map blanks_for l.0.now) };
 
     fn fmt<W: fmt::Write>(&self, f: &mut fmt::Formatter<W>) -> fmt::Result {
-        for byte in self.0 {
-            write!(f, "{}", Blanks(*byte))?;
-        }
-        Ok(())
+        write_each(f, self.0, Blanks)
     }
 }
 

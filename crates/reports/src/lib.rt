@@ -5,6 +5,7 @@
 
 pub mod caption;
 pub mod cells;
+mod each;
 pub mod excerpt;
 mod part;
 pub mod reason;

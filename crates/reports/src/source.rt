@@ -5,6 +5,7 @@ ghost use Rattle.std.specs.Str.{IsAscii};
 ghost use Rattle.std.specs.String.{string_bytes};
 ghost use Rattle.reports.specs.Names.{name_letters, name_shown, letters_shown};
 
+use crate::each::write_each;
 use analysis::letters::letters_of;
 use parser::table::Record;
 use std::alloc::{AllocError, Global};
@@ -46,9 +47,6 @@ impl fmt::Display for Name<'_> {
     ghost output = { λ n. Some (letters_shown n.letters.now) };
 
     fn fmt<W: fmt::Write>(&self, f: &mut fmt::Formatter<W>) -> fmt::Result {
-        for letter in self.letters {
-            f.write_char(char::from(*letter))?;
-        }
-        Ok(())
+        write_each(f, self.letters, char::from)
     }
 }

@@ -60,13 +60,15 @@ pub fn outline(out: &mut String, source: Source, i: usize, depth: usize) -> Resu
     ensures lines { IfOk result (λ u. string_bytes out.new ≡ string_bytes out.old ++ outline_of source.entry.text.now source.entry.records.now depth i) }
 {
     let node = node_of(source.records, i);
-    let mut below = depth;
-    if !matches!(node, Node::More(_, _)) {
-        let indent = Indent(depth);
-        let caption = Caption { source, node };
-        write!(out, "{indent}{caption}\n")?;
-        below = depth.saturating_add(1);
-    }
+    let below = match node {
+        Node::More(_, _) => depth,
+        _ => {
+            let indent = Indent(depth);
+            let caption = Caption { source, node };
+            write!(out, "{indent}{caption}\n")?;
+            depth.saturating_add(1)
+        }
+    };
     for part in parts(node) {
         if let Some(p) = part
             && p < i

@@ -28,13 +28,13 @@ fn labels(rt: HostRuntime) -> Result<(), Fail> {
     let source = table(&records, &lines).source;
     let figures = [10, 11, 12, 13, 14, 15, 99];
     let mut shown = String::new(rt.alloc());
-    for line in lines {
-        if let Some(cells) = cells_of(line) {
+    for line in &lines {
+        if let Some(cells) = cells_of(*line) {
             let subscripts = cells.low..i64::MAX;
             for (figure, subscript) in figures_of(cells, &figures).iter().zip(subscripts) {
                 let label = CellLabel {
                     source,
-                    line,
+                    line: *line,
                     subscript,
                 };
                 write!(shown, "{label} = {figure}, ")?;
