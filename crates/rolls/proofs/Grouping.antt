@@ -2,7 +2,7 @@
 use Rattle.std.proofs.Common.{◌≡◌, ℕ, zero, suc, ◌+◌, ◌-◌, ◌<◌, ◌≤◌, Bool, true, false, List, [], ◌∷◌, ◌++◌, length, take, drop, sym, refl, ap, ◌∙◌, le_refl, arith, length-drop, length-take}
 use Rattle.std.proofs.lemmas.List.{drop-drop, take-append-drop}
 use Rattle.std.proofs.lemmas.Bool.{cond-false, cond-true}
-use Rattle.rolls.specs.Contents.{Contents, first, first_of, rest, rest_of, took}
+use Rattle.rolls.specs.Contents.{Contents, first, rest, rest_of, took}
 use Rattle.rolls.proofs.Taking.{took_first}
 use Rattle.rolls.specs.Groups.{Keeps, Parted, all_groups, filtered, full_group, groups, groups_up_to, last_group, no_groups, past, stayers}
 
@@ -53,9 +53,6 @@ module _ {F : Type 0} where
     kept_figures stays =
         ap (λ xs. stayers is_zero (groups (suc g) xs)) (took_first c x given) ∙ stayers_kept is_zero g x later stays
 
-    pub kept_answer : is_zero x ≡ false → took x ≡ first (filtered is_zero (suc g) 0 c)
-    kept_answer stays = sym (ap (first_of c.ending) (kept_figures stays))
-
     pub kept_after : is_zero x ≡ false → filtered is_zero (suc g) g (rest c) ≡ rest (filtered is_zero (suc g) 0 c)
     kept_after stays = sym (ap (λ xs. record { figures = rest_of xs; ending = c.ending }) (kept_figures stays))
 
@@ -64,23 +61,8 @@ module _ {F : Type 0} where
         sym (ap (λ xs. record { figures = xs; ending = c.ending })
         (ap (λ xs. stayers is_zero (groups (suc g) xs)) (took_first c x given) ∙ stayers_dropped is_zero g x later gone))
 
-    -- The roll gets shorter, so that the filter comes to an end.
-    pub dropped_shorter : length (past g (rest c)).figures < length c.figures
-    dropped_shorter =
-        let held = ap length (took_first c x given) in
-        let cut = length-drop g later in
-        omega arith
-
-  -- The filter inside a group hands over what the roll does.
+  -- The filter inside a group goes on as the roll does.
   module _ (is_zero : F → Bool) (group : ℕ) where
-    pub inside_first : (left : ℕ) (c : Contents F) → 0 < left → first (filtered is_zero group left c) ≡ first c
-    inside_first zero c some = absurd (omega arith)
-    inside_first (suc left) c some = by_list c.figures
-      where
-        by_list : (xs : List F) → first_of c.ending (take (suc left) xs ++ stayers is_zero (groups group (drop (suc left) xs))) ≡ first_of c.ending xs
-        by_list [] = refl
-        by_list (x ∷ xs) = refl
-
     pub inside_rest : (left : ℕ) (c : Contents F) → 0 < left → filtered is_zero group (left - 1) (rest c) ≡ rest (filtered is_zero group left c)
     inside_rest zero c some = absurd (omega arith)
     inside_rest (suc left) c some =

@@ -1,9 +1,9 @@
 -- What the digits in front say of the line there: each outcome of the reader of whole figures, in the words of the rule.
-use Rattle.std.proofs.Common.{◌≡◌, ℕ, ◌<◌, ◌≤◌, true, false, leb, List, [], ◌∷◌, ◌++◌, length, Some, None, sym, ap, ◌∙◌, ⊎_elim, arith, length-append}
+use Rattle.std.proofs.Common.{◌≡◌, ℕ, ◌<◌, ◌≤◌, true, false, List, [], ◌∷◌, ◌++◌, length, None, sym, ap, ◌∙◌, ⊎_elim, arith, length-append}
 use Rattle.std.proofs.lemmas.List.{append-nil}
-use Rattle.std.proofs.lemmas.Bool.{and_from, and_left, and_right, cases_lt, cond-true, le-leb}
-use Rattle.rolls.specs.Lines.{all_digits, digits_value, is_digit, is_magnitude, magnitude, no_end}
-use Rattle.rolls.specs.Reading.{FigureLine, NoFigureLine}
+use Rattle.std.proofs.lemmas.Bool.{and_left, and_right, cases_lt}
+use Rattle.rolls.specs.Lines.{all_digits, is_digit, magnitude, no_end}
+use Rattle.rolls.specs.Reading.{NoFigureLine}
 use Rattle.rolls.specs.Text.{DigitsRead, digit_first}
 use Rattle.rolls.specs.LineLaws.{digits_no_end}
 use Rattle.rolls.specs.WholeLaws.{magnitude_no_end}
@@ -56,19 +56,3 @@ module _ (bytes : List ℕ) (value : ℕ) (rest : List ℕ) (r : DigitsRead byte
 
     pub large_row : 2000000000 < value → NoFigureLine magnitude bytes
     large_row large = let v = r.value_is in no_magnitude (large_none r.row (omega arith))
-
-    pub row_found : (length rest ≡ length bytes → ⊥) → value ≤ 2000000000 → FigureLine magnitude bytes value more
-    row_found some small =
-        let v = r.value_is in
-        let limit = r.ten_at_most in
-        let long = ap length r.parts ∙ length-append r.row rest in
-        let passes : is_magnitude r.row ≡ true =
-        and_from (all_digits r.row) _ r.digits
-        (and_from (leb 1 (length r.row)) _ (le-leb 1 (length r.row) (omega arith))
-        (and_from (leb (length r.row) 10) _ (le-leb (length r.row) 10 (omega arith)) (le-leb (digits_value 0 r.row) 2000000000 (omega arith))))
-        in
-        record {
-          line = r.row;
-          parts = ended;
-          holds = cond-true (is_magnitude r.row) (Some (digits_value 0 r.row)) None passes ∙ ap Some (sym v);
-        }

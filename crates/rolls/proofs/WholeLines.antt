@@ -133,8 +133,8 @@ module _ (figure : List ℕ → Option ℤ) (inside_lines : (line : List ℕ) (z
               (some_bytes place line (with_ends lines ++ unended)
               (λ row more z e holds.
               let same = same_row line row (with_ends lines ++ unended) more inside (inside_lines row z holds) e in
-              let y : ◌≡◌ {A = ℕ} 0 1 = cc (ap figure same) in
-              omega arith));
+              let there = ap figure same in
+              cc));
         })
 
   -- Lines that are read one after the other are read as whole lines say.

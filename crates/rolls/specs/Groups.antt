@@ -1,6 +1,6 @@
 -- The leaver filter: the roll is parted into groups of g figures, the last perhaps shorter; a group whose first figure is
 -- zero stands for someone who has left, and is dropped whole. The other groups are kept, in order.
-use Rattle.std.specs.Prelude.{◌≡◌, ℕ, zero, suc, ◌≤◌, Bool, cond, List, [], ◌∷◌, ◌++◌, length, take, drop, Ok, Err, Result}
+use Rattle.std.specs.Prelude.{◌≡◌, ℕ, zero, suc, ◌≤◌, Bool, cond, List, [], ◌∷◌, ◌++◌, length, take, drop}
 use Rattle.rolls.specs.Contents.{Contents}
 
 module _ {F : Type 0} where
@@ -49,11 +49,6 @@ pub record Keeps {F : Type 0} (is_zero : F → Bool) (g : ℕ) (all through : Li
   pub are_all : all_groups parts ≡ all
   pub sizes : Parted g parts
   pub stay : through ≡ stayers is_zero parts
-
--- How many figures of its group are to follow a first figure that is handed over.
-abbrev pub left_after : {F E : Type 0} → ℕ → Result F E → ℕ
-left_after behind (Ok x) = behind
-left_after behind (Err e) = 0
 
 -- What a roll holds once so many figures have been taken from it.
 abbrev pub past : {F : Type 0} → ℕ → Contents F → Contents F

@@ -36,7 +36,8 @@ pub trait LineFigures: Figures {
     ghost reads_written: { (z : ℤ) → low ≤ℤ z → z ≤ℤ high → signed_line unsigned (written z) ≡ Some z };
 }
 
-// The lines of a file that are still to come, of which the first begins at byte `at` of the file.
+// The lines of a file that are still to come, of which the first begins at byte `at` of the file; the place stands
+// beside the slice since damage is told by it, and a slice does not say where it lies in the file.
 #[derive(Drop)]
 pub struct FileRoll<'a, F> {
     rest: &'a [u8],
