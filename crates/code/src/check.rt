@@ -198,7 +198,8 @@ impl<'a> Lent<'a> {
         })
     }
 
-    // 22 to 26: the operations in their order, with the figures on the stack counted along.
+    // 22 to 26: the operations in their order, with the figures on the stack counted along. One walk by place, since each
+    // rule speaks of an operation's place in the caller's two arrays.
     fn check(&self) -> Result<(), Refusal>
         ensures { verdict_of result ≡ check_from (record { sizes = self.now.sizes; operations = self.now.operations.now; operands = self.now.operands.now }) self.now.operations.now 0 0 }
     {
