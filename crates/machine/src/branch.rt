@@ -33,6 +33,7 @@ impl<F: Figures> OperandStack<'_, F> {
     ghost use Rattle.machine.specs.Views.{laid};
 
     // Where control goes from a jump at a place.
+    #[inline(always)]
     pub(crate) fn go(
         &mut self,
         numbers: &[u64],

@@ -78,7 +78,8 @@ pub(crate) fn element<F: Figures>(operand: u64, subscript: F) -> Result<usize, R
 impl<F: Figures> OperandStack<'_, F> {
     ghost use Rattle.machine.specs.Views.{laid};
 
-    // Work on the stack alone.
+    // Work on the stack alone. Within its caller the depth stays in a register.
+    #[inline(always)]
     pub(crate) fn calculate(
         &mut self,
         calculation: Calculation,

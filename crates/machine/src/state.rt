@@ -3,7 +3,7 @@
 use rolls::roll::Roll;
 
 // The place of the operation that comes next, and the cells, the book with so many figures posted and the roll, which the
-// caller lends. The operand stack stands beside it: of a struct in this struct it would not be known that its array is given back.
+// caller lends. No struct that holds an array stands in it: what the arrays then hold at the end would not be known.
 #[derive(Drop)]
 pub struct State<'c, 'b, 'r, R: Roll> {
     pub(crate) place: usize,

@@ -18,6 +18,7 @@ impl<F: Figures> OperandStack<'_, F> {
     ghost use Rattle.machine.specs.Views.{laid};
 
     // Work on the stack and the cells.
+    #[inline(always)]
     pub(crate) fn transfer(
         &mut self,
         transfer: Transfer,

@@ -1,38 +1,38 @@
--- What a case compares of a run: steps made, figures posted, how it stands by a number, the fault's text place and its place
--- in the roll.
-use Rattle.std.specs.Prelude.{◌≡◌, ℕ, cond, Some, None, Option, nat_lt}
+-- What a case tells: how a run of its code stands in the end, or why there is no run.
+use Rattle.std.specs.Prelude.{◌≡◌, ℕ, cond, List, Ok, Err, Result, nat_lt}
+use Rattle.figures.specs.Kinds.{Kind}
 use Rattle.code.specs.declared.sizes.Sizes.{Sizes}
+use Rattle.code.specs.Answers.{number, told_at}
 use Rattle.code.specs.Check.{Verdict, passes, refused}
-use Rattle.machine.specs.declared.status.Standing.{Standing}
-use Rattle.machine.specs.declared.status.Standing.TheVariants.{Going, End, Fault}
-use Rattle.machine.specs.Faults.{number, roll_place}
-
--- 0 while it goes, 1 at the end, else the number of the fault.
-abbrev pub ending_number : Standing → ℕ
-ending_number Going = 0
-ending_number End = 1
-ending_number (Fault f p) = number f
-
--- A place that is not there is told as 0.
-abbrev pub or_zero : Option ℕ → ℕ
-or_zero None = 0
-or_zero (Some n) = n
-
-abbrev pub text_place : Standing → ℕ
-text_place Going = 0
-text_place End = 0
-text_place (Fault f p) = p
-
-abbrev pub roll_byte : Standing → ℕ
-roll_byte Going = 0
-roll_byte End = 0
-roll_byte (Fault f p) = or_zero (roll_place f)
+use Rattle.code.specs.Codes.{Code}
+use Rattle.machine.specs.declared.status.Status.{Status}
+use Rattle.machine.specs.Histories.{History, Started}
+use Rattle.machine.specs.Machine.{Memory}
+use Rattle.machine.specs.Runs as calls
+use Rattle.machine.specs.RunViews.{report_of}
+use Rattle.machine_cases.specs.declared.runner.CaseRefusal.{CaseRefusal}
+use Rattle.machine_cases.specs.declared.runner.CaseRefusal.TheVariants.{Check, Run}
 
 -- The sizes under which a case runs code of n operations: eight cells, all of them named, and depth four.
 abbrev pub case_sizes : ℕ → Sizes
 case_sizes n = record { operations = cond (nat_lt 4096 n) 0 n; named = 8; cells = 8; depth = 4 }
 
--- Code that the check refuses is told by the refusal's number.
-abbrev pub ToldRefusal : Verdict → ℕ → Type 0
-ToldRefusal passes k = Unit {0}
-ToldRefusal (refused n at) k = k ≡ n
+-- What the check said of the code, by what a case tells.
+abbrev pub check_said : Result Status CaseRefusal → Verdict
+check_said (Ok s) = passes
+check_said (Err (Check e)) = refused (number e) (told_at e)
+check_said (Err (Run e)) = passes
+
+-- Calls since start, in any order, lead a run of the code to here.
+pub record Reached {V : Type 0} (kind : Kind V) (c : Code) (now : calls.Run V) : Type 0 where
+  pub first : calls.Run V
+  pub answers : List ℕ
+  pub started : Started c first
+  pub history : History kind first answers now
+
+-- They lead to a run whose report is the status, over this memory.
+pub record CameTo {V : Type 0} (kind : Kind V) (c : Code) (s : Status) (m : Memory V) : Type 0 where
+  pub now : calls.Run V
+  pub reached : Reached kind c now
+  pub report : report_of s ≡ calls.report now.progress now.memory.posted
+  pub memory : now.memory ≡ m

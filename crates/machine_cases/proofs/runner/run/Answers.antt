@@ -1,0 +1,30 @@
+use Rattle.std.proofs.Common.{◌∷◌, map, refl, ap, ◌∙◌}
+use Rattle.code.specs.CheckedCode.{code_in}
+use Rattle.code.specs.Codes.{code_of}
+use Rattle.machine.specs.Histories.{advanced, started, steps_in}
+use Rattle.machine.specs.Refusals.{answer}
+use Rattle.machine.specs.RunViews.{run_of}
+use Rattle.machine.specs.Runs.{cells_refusal, first_progress}
+use Rattle.machine_cases.proofs.Reaching.{not_refused}
+use Rattle.machine_cases.proofs.runner.run.Goals as goal
+
+pub loop-init : goal.loop-init
+loop-init g c =
+    let means = g.R.Figure.Figures.means in
+    let tied = not_refused (cells_refusal (code_in c.check.new.place) (map means c.args.cells.now)) _ _ c.in_ok-prepare.ensures.answered c.in_ok-prepare.ensures.tied in
+    record {
+      first = run_of means c.start-run.result c.prepare.new.cells c.args.book.now (g.R.Roll.holds c.args.roll.now);
+      answers = _;
+      started = record { progress = c.start-run.ensures.progress ∙ ap first_progress (tied ∙ c.in_ok-check.ensures.after ∙ ap (λ s. code_of s c.args.operations.now c.args.operands.now) c.sizes_for.ensures); posted = c.start-run.ensures.posted };
+      history = started;
+    }
+
+pub loop-preserved : goal.loop-preserved
+loop-preserved g c =
+    let l = c.loop.invariant in
+    record {
+      first = l.first;
+      answers = steps_in (answer (λ n. n) c.advance.result) ∷ l.answers;
+      started = l.started;
+      history = advanced l.history c.advance.ensures.advanced;
+    }
