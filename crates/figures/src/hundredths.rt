@@ -13,7 +13,8 @@ use crate::kind::Figures;
 use crate::range;
 use std::fmt;
 
-// So many hundredths; a number beyond ±2,000,000,000 is read as that end of the range.
+// So many hundredths; a number beyond ±2,000,000,000 is read as that end of the range. A type of its own beside whole
+// figures, whose product, quotient, rounding and limit are other ones.
 #[derive(Clone, Copy, Debug)]
 pub struct Hundredths {
     pub hundredths: i32,

@@ -12,7 +12,8 @@ use crate::kind::Figures;
 use crate::range;
 use std::fmt;
 
-// A whole number; one beyond ±2,000,000,000 is read as that end of the range.
+// A whole number; one beyond ±2,000,000,000 is read as that end of the range. No instance of one type with the scale as
+// a parameter, shared with hundredths: its product and quotient would then be defined through a scale of 1.
 #[derive(Clone, Copy, Debug)]
 pub struct Whole {
     pub units: i32,
