@@ -9,7 +9,7 @@ use code::check::check;
 use code::checked::Checked;
 use code::sizes::Sizes;
 
-// 0 for code that passes, else the number of the refusal.
+// 0 for code that passes, else the number of the refusal: C knows numbers, and no Result.
 #[unsafe(no_mangle)]
 pub extern "C" fn pavennuri_check<'a>(
     n: u32,

@@ -4,4 +4,5 @@ pub mod Range
 pub mod Whole
 pub mod Hundredths
 pub mod Text
+pub mod Amounts
 pub mod Cases

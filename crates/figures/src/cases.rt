@@ -13,6 +13,7 @@ mod tests {
     use crate::hundredths::Hundredths;
     use crate::kind::Figures;
     use crate::whole::Whole;
+    use crate::word::NoFigure;
 
     fn stored(r: Result<Whole, Fault>) -> Result<i32, u8> {
         match r {
@@ -61,6 +62,25 @@ mod tests {
             assert_eq!(rt; stored(x.subtract(y)), difference);
             assert_eq!(rt; stored(x.multiply(y)), product);
             assert_eq!(rt; stored(x.divide(y)), quotient);
+        }
+    }
+
+    // a word, and the hundredths that are read of it
+    #[test]
+    fn money_read(rt: HostRuntime) {
+        let cases = [
+            ("2.50", Ok(250)),
+            ("-0.05", Ok(-5)),
+            ("7", Ok(700)),
+            (".50", Err(NoFigure)),
+            ("+1.00", Err(NoFigure)),
+            ("20000000.01", Err(NoFigure)),
+        ];
+        for (word, read) in cases {
+            assert_eq!(rt;
+                word.parse().map(|figure: Hundredths| figure.hundredths),
+                read
+            );
         }
     }
 

@@ -4,16 +4,19 @@ ghost use Rattle.std.specs.Prelude.{◌≡◌, ◌*◌, ℤ, pos, ◌≤ℤ◌, 
 ghost use Rattle.figures.specs.Hundredths.{Nearest, hundredths as in_hundredths, hundredths_value};
 ghost use Rattle.figures.specs.Faults.{outcome};
 ghost use Rattle.figures.specs.Range.{high, in_range, low};
-ghost use Rattle.figures.specs.Text.{money_text};
+ghost use Rattle.figures.specs.Text.{Reads, WritesMoney, money_text};
 ghost use Rattle.std.proofs.Common.{arith};
 ghost use Rattle.std.proofs.lemmas.Int.{ints};
 
 use crate::fault::Fault;
 use crate::kind::Figures;
 use crate::range;
+use crate::word::{NoFigure, money};
 use std::fmt;
+use std::str::FromStr;
 
-// So many hundredths; a number beyond ±2,000,000,000 is read as that end of the range.
+// So many hundredths; a number beyond ±2,000,000,000 is read as that end of the range. A type of its own beside whole
+// figures, whose product, quotient, rounding and limit are other ones.
 #[derive(Clone, Copy, Debug)]
 pub struct Hundredths {
     pub hundredths: i32,
@@ -126,5 +129,16 @@ impl fmt::Display for Hundredths {
         let size = value.unsigned_abs();
         let (units, part) = (size / 100, size % 100);
         write!(f, "{minus}{units}.{part:02}")
+    }
+}
+
+// Money with two decimals or none, behind a minus sign or none, is read where it lies within the range.
+impl FromStr for Hundredths {
+    type Err = NoFigure;
+
+    ghost from_str_gives = { Reads WritesMoney hundredths_value };
+
+    fn from_str(word: &str) -> Result<Hundredths, NoFigure> {
+        Hundredths::try_from(money(word)?).map_err(|_| NoFigure)
     }
 }

@@ -8,3 +8,4 @@ pub mod hundredths;
 pub mod kind;
 mod range;
 pub mod whole;
+pub mod word;

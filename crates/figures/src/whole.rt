@@ -4,15 +4,19 @@ ghost use Rattle.std.specs.Prelude.{◌≡◌, ℤ, pos, ◌≤ℤ◌, Some, ref
 ghost use Rattle.figures.specs.Faults.{outcome};
 ghost use Rattle.figures.specs.Range.{high, in_range, low};
 ghost use Rattle.figures.specs.Whole.{whole, whole_value};
+ghost use Rattle.figures.specs.Text.{Reads, WritesWhole};
 ghost use Rattle.std.specs.Fmt.{signed_decimal};
 ghost use Rattle.std.proofs.Common.{rules};
 
 use crate::fault::Fault;
 use crate::kind::Figures;
 use crate::range;
+use crate::word::NoFigure;
 use std::fmt;
+use std::str::FromStr;
 
-// A whole number; one beyond ±2,000,000,000 is read as that end of the range.
+// A whole number; one beyond ±2,000,000,000 is read as that end of the range. No instance of one type with the scale as
+// a parameter, shared with hundredths: its product and quotient would then be defined through a scale of 1.
 #[derive(Clone, Copy, Debug)]
 pub struct Whole {
     pub units: i32,
@@ -112,5 +116,17 @@ impl fmt::Display for Whole {
     fn fmt<W: fmt::Write>(&self, f: &mut fmt::Formatter<W>) -> fmt::Result {
         let number = self.value();
         write!(f, "{number}")
+    }
+}
+
+// A word of digits, behind a sign or none, is read where its number lies within the range.
+impl FromStr for Whole {
+    type Err = NoFigure;
+
+    ghost from_str_gives = { Reads WritesWhole whole_value };
+
+    fn from_str(word: &str) -> Result<Whole, NoFigure> {
+        let number = word.parse::<i64>().map_err(|_| NoFigure)?;
+        Whole::try_from(number).map_err(|_| NoFigure)
     }
 }

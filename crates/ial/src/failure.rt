@@ -1,5 +1,6 @@
 // Why the program ends with status 1, in one line.
 
+use figures::word::NoFigure;
 use rolls::leavers::FilterRefusal;
 use std::alloc::{AllocError, AllocFailed};
 use std::num::ParseIntError;
@@ -65,6 +66,12 @@ impl From<code::refusals::Refusal> for Failure {
 impl From<machine::refusal::Refusal> for Failure {
     fn from(refusal: machine::refusal::Refusal) -> Failure {
         Failure::Run(refusal)
+    }
+}
+
+impl From<NoFigure> for Failure {
+    fn from(_e: NoFigure) -> Failure {
+        Failure::Usage("--set takes CELL=FIGURE")
     }
 }
 

@@ -1,7 +1,6 @@
 // What a run came to, as one JSON object on a line.
 
 use crate::outcome::{Outcome, Slice};
-use crate::shown::Shown;
 use code::sizes::Sizes;
 use machine::status::Standing;
 use std::fmt;
@@ -9,7 +8,7 @@ use std::fmt;
 #[derive(Drop)]
 pub(crate) struct Json<'a, 'b, F>(pub &'a Outcome<'b, F>);
 
-impl<F: Shown> fmt::Display for Json<'_, '_, F> {
+impl<F: fmt::Display> fmt::Display for Json<'_, '_, F> {
     fn fmt<W: fmt::Write>(&self, f: &mut fmt::Formatter<W>) -> fmt::Result {
         let outcome = self.0;
         write!(f, "{{\"sizes\": {}", JsonSizes(outcome.sizes))?;

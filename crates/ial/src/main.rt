@@ -14,7 +14,6 @@ mod outcome;
 mod roll;
 mod run;
 mod run_arguments;
-mod shown;
 mod visible;
 
 use arguments::Command;

@@ -1,7 +1,6 @@
 // What a run came to, for people or as one JSON object.
 
 use crate::json::Json;
-use crate::shown::Shown;
 use code::sizes::Sizes;
 use machine::status::{Standing, Status};
 use std::io::IsTerminal;
@@ -31,7 +30,7 @@ pub(crate) fn progress(rt: &HostRuntime, count: u64) {
     }
 }
 
-impl<F: Shown> Outcome<'_, F> {
+impl<F: fmt::Display> Outcome<'_, F> {
     pub(crate) fn print(&self, rt: &HostRuntime, json: bool) -> io::Result<()> {
         if rt.stderr().is_terminal() {
             let _ = rt.eprint("\r");
@@ -45,7 +44,7 @@ impl<F: Shown> Outcome<'_, F> {
 }
 
 // For people, in lines.
-impl<F: Shown> fmt::Display for Outcome<'_, F> {
+impl<F: fmt::Display> fmt::Display for Outcome<'_, F> {
     fn fmt<W: fmt::Write>(&self, f: &mut fmt::Formatter<W>) -> fmt::Result {
         writeln!(f, "posted: {}", self.status.posted)?;
         for figure in self.posted {

@@ -21,7 +21,8 @@ pub(crate) fn report(rt: &HostRuntime, file: &str, group: Option<usize>) -> Resu
     Ok(())
 }
 
-// The tally of a file's roll, through the leaver filter where a group size is given.
+// The tally of a file's roll, through the leaver filter where a group size is given. A run makes the same choice for
+// itself: a closure that both could hand to one function cannot be generic over the roll.
 fn tally(bytes: &[u8], group: Option<usize>) -> Result<Tally<Whole>, Failure> {
     let mut roll = TextRoll::new(bytes);
     match group {

@@ -4,11 +4,11 @@ use crate::failure::Failure;
 use crate::loaded::Loaded;
 use crate::outcome::{Outcome, Slice};
 use crate::run_arguments::{KindName, RunOptions, Setting};
-use crate::shown::Shown;
 use crate::{files, outcome};
 use code::checked::Checked;
 use code::sizes::Sizes;
 use figures::kind::{Figures, zero};
+use figures::word::NoFigure;
 use machine::prepare::prepare;
 use machine::ready::Ready;
 use machine::running::Running;
@@ -18,6 +18,8 @@ use rolls::leavers::LeaverFilter;
 use rolls::roll::Roll;
 use rolls::text::TextRoll;
 use std::alloc::{AllocError, Global};
+use std::fmt;
+use std::str::FromStr;
 
 pub(crate) fn report(
     rt: &HostRuntime,
@@ -42,7 +44,7 @@ fn filtered<R: Roll + Drop>(
     roll: R,
 ) -> Result<(), Failure>
 where
-    R::Figure: Shown,
+    R::Figure: fmt::Display + FromStr<Err = NoFigure>,
 {
     let mut roll = roll;
     match options.group {
@@ -61,7 +63,7 @@ fn run<R: Roll>(
     roll: &mut R,
 ) -> Result<(), Failure>
 where
-    R::Figure: Shown,
+    R::Figure: fmt::Display + FromStr<Err = NoFigure>,
 {
     let sizes = code.sizes();
     let mut memory = RunMemory::new(rt.alloc(), sizes, options.book)?;
@@ -95,7 +97,7 @@ struct RunMemory<F> {
     book: Vec<F>,
 }
 
-impl<F: Shown> RunMemory<F> {
+impl<F: Figures + FromStr<Err = NoFigure>> RunMemory<F> {
     fn new(heap: Global, sizes: Sizes, book: usize) -> Result<RunMemory<F>, AllocError> {
         let nought = zero::<F>();
         Ok(RunMemory {
@@ -108,9 +110,7 @@ impl<F: Shown> RunMemory<F> {
     // Enters the figures that the command line gives for cells.
     fn enter(&mut self, ready: &Ready<'_>, settings: &[Setting]) -> Result<(), Failure> {
         for setting in settings {
-            let figure = F::written(setting.figure).ok_or(Failure::Usage(
-                "--set takes CELL=FIGURE",
-            ))?;
+            let figure: F = setting.figure.parse()?;
             ready.enter(self.cells.as_mut_slice(), setting.cell, figure)?;
         }
         Ok(())

@@ -91,6 +91,20 @@ impl<'a> RunOptions<'a> {
     }
 }
 
+// A word that is no option: the code's file first, then the roll's; an empty word names no file.
+fn take_file<'a>(
+    code: &mut Option<&'a str>,
+    roll: &mut Option<&'a str>,
+    file: &'a str,
+) -> Result<(), Failure> {
+    let place = if code.is_none() { code } else { roll };
+    if place.is_some() {
+        return Err(Failure::Usage(USAGE));
+    }
+    *place = Some(file).filter(|file| !file.is_empty());
+    Ok(())
+}
+
 // The words after `run`: the code's file first, then the roll's, and options wherever they stand.
 pub(crate) fn parse<'a>(heap: Global, words: &[&'a str]) -> Result<Command<'a>, Failure> {
     let mut options = RunOptions::new(heap);
@@ -115,12 +129,7 @@ pub(crate) fn parse<'a>(heap: Global, words: &[&'a str]) -> Result<Command<'a>, 
                 rest
             }
             [file, rest @ ..] => {
-                let place = if code.is_none() { &mut code } else { &mut roll };
-                if place.is_some() {
-                    return Err(Failure::Usage(USAGE));
-                }
-                // an empty word names no file
-                *place = Some(*file).filter(|file| !file.is_empty());
+                take_file(&mut code, &mut roll, file)?;
                 rest
             }
         };
