@@ -1,124 +1,158 @@
-use crate::reading::{Outcome, outcome_of};
+use crate::reading::outcome_of;
 use std::alloc::{AllocError, Global};
 use std::test::Fail;
+use words::refusal::{Refusal, WordRefusal};
 
 struct Case {
     text: &'static [u8],
-    outcome: Outcome,
+    outcome: Result<usize, Refusal>,
 }
 
 const CASES: [Case; 26] = [
     // Nothing, and gaps alone.
     Case {
         text: b"",
-        outcome: Outcome { number: 0, at: 0 },
+        outcome: Ok(0),
     },
     Case {
         text: b"  \n ",
-        outcome: Outcome { number: 0, at: 0 },
+        outcome: Ok(0),
     },
     // A byte that begins no word: a mark we do not have, a tab, a byte over 127, the first of two.
     Case {
         text: b"x := 1 # 2",
-        outcome: Outcome { number: 2, at: 7 },
+        outcome: Err(Refusal {
+            reason: WordRefusal::NoWord,
+            place: 7,
+        }),
     },
     Case {
         text: b"a\tb",
-        outcome: Outcome { number: 2, at: 1 },
+        outcome: Err(Refusal {
+            reason: WordRefusal::NoWord,
+            place: 1,
+        }),
     },
     Case {
         text: b"\xff",
-        outcome: Outcome { number: 2, at: 0 },
+        outcome: Err(Refusal {
+            reason: WordRefusal::NoWord,
+            place: 0,
+        }),
     },
     Case {
         text: b"a . b # c",
-        outcome: Outcome { number: 2, at: 2 },
+        outcome: Err(Refusal {
+            reason: WordRefusal::NoWord,
+            place: 2,
+        }),
     },
     // 9 and 10 digits; leading zeros count.
     Case {
         text: b"x := 123456789",
-        outcome: Outcome { number: 0, at: 3 },
+        outcome: Ok(3),
     },
     Case {
         text: b"x := 1234567890",
-        outcome: Outcome { number: 3, at: 5 },
+        outcome: Err(Refusal {
+            reason: WordRefusal::WordTooLong,
+            place: 5,
+        }),
     },
     Case {
         text: b"000000001",
-        outcome: Outcome { number: 0, at: 1 },
+        outcome: Ok(1),
     },
     Case {
         text: b"0000000001",
-        outcome: Outcome { number: 3, at: 0 },
+        outcome: Err(Refusal {
+            reason: WordRefusal::WordTooLong,
+            place: 0,
+        }),
     },
     // 16 and 17 bytes of a name.
     Case {
         text: b"abcdefghijklmnop",
-        outcome: Outcome { number: 0, at: 1 },
+        outcome: Ok(1),
     },
     Case {
         text: b"abcdefghijklmnopq",
-        outcome: Outcome { number: 3, at: 0 },
+        outcome: Err(Refusal {
+            reason: WordRefusal::WordTooLong,
+            place: 0,
+        }),
     },
     Case {
         text: b"a23456789012345b7",
-        outcome: Outcome { number: 3, at: 0 },
+        outcome: Err(Refusal {
+            reason: WordRefusal::WordTooLong,
+            place: 0,
+        }),
     },
     // The earliest place goes.
     Case {
         text: b"1234567890 #",
-        outcome: Outcome { number: 3, at: 0 },
+        outcome: Err(Refusal {
+            reason: WordRefusal::WordTooLong,
+            place: 0,
+        }),
     },
     Case {
         text: b"# 1234567890",
-        outcome: Outcome { number: 2, at: 0 },
+        outcome: Err(Refusal {
+            reason: WordRefusal::NoWord,
+            place: 0,
+        }),
     },
     // A number ends at its last digit.
     Case {
         text: b"12ab",
-        outcome: Outcome { number: 0, at: 2 },
+        outcome: Ok(2),
     },
     Case {
         text: b"123456789a",
-        outcome: Outcome { number: 0, at: 2 },
+        outcome: Ok(2),
     },
     // The longest mark.
     Case {
         text: b"a<=b",
-        outcome: Outcome { number: 0, at: 3 },
+        outcome: Ok(3),
     },
     Case {
         text: b"a< =b",
-        outcome: Outcome { number: 0, at: 4 },
+        outcome: Ok(4),
     },
     Case {
         text: b":==:/=<=>=",
-        outcome: Outcome { number: 0, at: 5 },
+        outcome: Ok(5),
     },
     Case {
         text: b"in=:(n);",
-        outcome: Outcome { number: 0, at: 6 },
+        outcome: Ok(6),
     },
     // Comments: whatever they skip, up to a semicolon or the end.
     Case {
         text: b"comment",
-        outcome: Outcome { number: 0, at: 1 },
+        outcome: Ok(1),
     },
     Case {
         text: b"comment#\xff 1234567890;x",
-        outcome: Outcome { number: 0, at: 3 },
+        outcome: Ok(3),
     },
     Case {
         text: b"x := comment 1; 2",
-        outcome: Outcome { number: 0, at: 5 },
+        outcome: Ok(5),
     },
     Case {
         text: b"comment comment; comment",
-        outcome: Outcome { number: 0, at: 3 },
+        outcome: Ok(3),
     },
     Case {
         text: b"comments;# Comment",
-        outcome: Outcome { number: 2, at: 9 },
+        outcome: Err(Refusal {
+            reason: WordRefusal::NoWord,
+            place: 9,
+        }),
     },
 ];
 
@@ -143,7 +177,7 @@ struct LargeCase {
     piece: &'static [u8],
     times: usize,
     end: &'static [u8],
-    outcome: Outcome,
+    outcome: Result<usize, Refusal>,
 }
 
 const LARGE_CASES: [LargeCase; 12] = [
@@ -152,93 +186,99 @@ const LARGE_CASES: [LargeCase; 12] = [
         piece: b"a ",
         times: 500,
         end: b"",
-        outcome: Outcome { number: 0, at: 500 },
+        outcome: Ok(500),
     },
     LargeCase {
         piece: b"a ",
         times: 501,
         end: b"",
-        outcome: Outcome {
-            number: 4,
-            at: 1000,
-        },
+        outcome: Err(Refusal {
+            reason: WordRefusal::TooManyWords,
+            place: 1000,
+        }),
     },
     LargeCase {
         piece: b";",
         times: 500,
         end: b" \n",
-        outcome: Outcome { number: 0, at: 500 },
+        outcome: Ok(500),
     },
     LargeCase {
         piece: b";",
         times: 500,
         end: b"\n comment",
-        outcome: Outcome { number: 4, at: 502 },
+        outcome: Err(Refusal {
+            reason: WordRefusal::TooManyWords,
+            place: 502,
+        }),
     },
     LargeCase {
         piece: b"a ",
         times: 500,
         end: b"#",
-        outcome: Outcome {
-            number: 2,
-            at: 1000,
-        },
+        outcome: Err(Refusal {
+            reason: WordRefusal::NoWord,
+            place: 1000,
+        }),
     },
     LargeCase {
         piece: b"a ",
         times: 500,
         end: b"1234567890",
-        outcome: Outcome {
-            number: 3,
-            at: 1000,
-        },
+        outcome: Err(Refusal {
+            reason: WordRefusal::WordTooLong,
+            place: 1000,
+        }),
     },
     LargeCase {
         piece: b"a ",
         times: 500,
         end: b"b #",
-        outcome: Outcome {
-            number: 4,
-            at: 1000,
-        },
+        outcome: Err(Refusal {
+            reason: WordRefusal::TooManyWords,
+            place: 1000,
+        }),
     },
     // 8,192 and 8,193 bytes; the length goes before everything else.
     LargeCase {
         piece: b" ",
         times: 8191,
         end: b"a",
-        outcome: Outcome { number: 0, at: 1 },
+        outcome: Ok(1),
     },
     LargeCase {
         piece: b" ",
         times: 8192,
         end: b"a",
-        outcome: Outcome {
-            number: 1,
-            at: 8192,
-        },
+        outcome: Err(Refusal {
+            reason: WordRefusal::TextTooLong,
+            place: 8192,
+        }),
     },
     LargeCase {
         piece: b"#",
         times: 8193,
         end: b"",
-        outcome: Outcome {
-            number: 1,
-            at: 8192,
-        },
+        outcome: Err(Refusal {
+            reason: WordRefusal::TextTooLong,
+            place: 8192,
+        }),
     },
     // One long name, and a comment to the end.
     LargeCase {
         piece: b"a",
         times: 8192,
         end: b"",
-        outcome: Outcome { number: 3, at: 0 },
+        outcome: Err(Refusal {
+            reason: WordRefusal::WordTooLong,
+            place: 0,
+        }),
     },
     LargeCase {
         piece: b"comment ",
         times: 1024,
         end: b"",
-        outcome: Outcome { number: 0, at: 1 },
+        outcome: Ok(1),
     },
 ];
 

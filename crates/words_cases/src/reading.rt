@@ -2,6 +2,7 @@
 
 ghost use Rattle.words.specs.declared.word.Word.{Word as WordRecord};
 
+use words::refusal::Refusal;
 use words::table::{WordSlot, cut_words};
 use words::token::{Mark, Token};
 use words::word::Word;
@@ -21,6 +22,7 @@ impl WordSlot for Record {
     }
 }
 
+// A record as a table has them before it is filled.
 pub const EMPTY: Record = Record {
     word: Word {
         token: Token::Mark(Mark::Comma),
@@ -29,23 +31,7 @@ pub const EMPTY: Record = Record {
     node: 7,
 };
 
-// 0 and the number of words, or a refusal's number and place.
-#[derive(Clone, Copy, PartialEq, Eq, Debug, Drop)]
-pub struct Outcome {
-    pub number: u8,
-    pub at: usize,
-}
-
-pub(crate) fn outcome_of(text: &[u8]) -> Outcome {
-    let mut table = [EMPTY; 512];
-    match cut_words(text, &mut table) {
-        Ok(count) => Outcome {
-            number: 0,
-            at: count,
-        },
-        Err(refusal) => Outcome {
-            number: refusal.reason.number(),
-            at: refusal.place,
-        },
-    }
+// How many words a text has, or why it is refused.
+pub(crate) fn outcome_of(text: &[u8]) -> Result<usize, Refusal> {
+    cut_words(text, &mut [EMPTY; 512])
 }

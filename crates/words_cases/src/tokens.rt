@@ -1,4 +1,4 @@
-// The kinds of the words of a text, a letter each.
+// The kinds of the words of a text. A row has a letter for each word, so that it can be read beside its text.
 
 use crate::reading::EMPTY;
 use std::test::Fail;
