@@ -67,7 +67,7 @@ impl fmt::Display for Blanks {
     }
 }
 
-// Each byte as it is shown.
+// Each byte as it is shown. This and the next are two types, since a closure's contract gives no output.
 #[derive(Clone, Copy)]
 struct ShownBytes<'a>(&'a [u8]);
 
@@ -153,10 +153,10 @@ impl fmt::Display for Excerpt<'_> {
         let left = only_if(is_cut, "...");
         let words = ShownBytes(between(text, shown.from, shown.to));
         let right = only_if(shown.to < line.end, "...");
-        write!(f, "  {left}{words}{right}\n")?;
+        writeln!(f, "  {left}{words}{right}")?;
         let left = only_if(is_cut, "   ");
         let blanks = BlankBytes(between(text, shown.from, place));
-        write!(f, "  {left}{blanks}^\n")
+        writeln!(f, "  {left}{blanks}^")
     }
 }
 

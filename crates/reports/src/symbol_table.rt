@@ -80,6 +80,7 @@ impl SymbolTable<'_> {
 pub fn symbol_line(heap: Global, source: Source, line: NameRecord) -> Result<String, AllocError>
     ensures { IfOk result (λ s. string_bytes s ≡ symbol_shown source.entry.text.now source.entry.records.now line) }
 {
+    // A text, since only a text is filled up to a column.
     let name = source.name_text(heap, line.word)?;
     let kind = line.kind.wording();
     let value_type = line.value_type.wording();

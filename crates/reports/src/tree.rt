@@ -53,7 +53,8 @@ impl fmt::Display for Indent {
     }
 }
 
-// Adds the lines of the tree at node i, indented by depth. The parts of a row stand side by side.
+// Adds the lines of the tree at node i, indented by depth. The parts of a row stand side by side. Nodes go by their
+// numbers, since the tree lies in the work table, which is lent.
 #[tactic(auto, using(crate::proofs::OutlineSteps::outline_step))]
 pub fn outline(out: &mut String, source: Source, i: usize, depth: usize) -> Result<(), AllocError>
     ensures law { OutlineLaw source.entry.text.now source.entry.records.now }
@@ -65,10 +66,11 @@ pub fn outline(out: &mut String, source: Source, i: usize, depth: usize) -> Resu
         _ => {
             let indent = Indent(depth);
             let caption = Caption { source, node };
-            write!(out, "{indent}{caption}\n")?;
+            writeln!(out, "{indent}{caption}")?;
             depth.saturating_add(1)
         }
     };
+    // One test for each part: no lemma tells what `flatten` yields of an array of options.
     for part in parts(node) {
         if let Some(p) = part
             && p < i

@@ -6,7 +6,7 @@ use Rattle.reports.specs.Captions.{node_shown}
 use Rattle.reports.specs.Outlines.{part_outline, own_line, depth_below, outline_line}
 use Rattle.reports.proofs.OutlineSteps.{of_some, outlined, row_is_silent, others_tell}
 use Rattle.reports.proofs.tree.+outline.Goals as goal
-use Rattle.reports.proofs.tree.+outline.Goals.{in-More, in_default+in_ok-write-in_default}
+use Rattle.reports.proofs.tree.+outline.Goals.{in-More, in_default+in_ok-writeln-in_default}
 
 pub returns-clause-lines : goal.returns-clause-lines
 returns-clause-lines t c =
@@ -22,9 +22,9 @@ returns-clause-lines t c =
             ap string_bytes w.out-is ∙ sym (append-nil (string_bytes c.args.out.now)) ∙ ap (λ (x : List ℕ). string_bytes c.args.out.now ++ x) (sym r.0),
             w.below-is ∙ sym r.1,
           ))
-      | in_default+in_ok-write-in_default w ↦
+      | in_default+in_ok-writeln-in_default w ↦
           (let o = others_tell text rs d n w.in_default.not-More in (
-            ap string_bytes w.out-is ∙ (let e : string_bytes w.write.new.self ≡ string_bytes c.args.out.now ++ outline_line d (node_shown text rs n) = w.in_ok-write-in_default.ensures.bytes in e) ∙ sym (ap (λ (x : List ℕ). string_bytes c.args.out.now ++ x) o.0),
+            ap string_bytes w.out-is ∙ (let e : string_bytes w.writeln.new.self ≡ string_bytes c.args.out.now ++ outline_line d (node_shown text rs n) = w.in_ok-writeln-in_default.ensures.bytes in e) ∙ sym (ap (λ (x : List ℕ). string_bytes c.args.out.now ++ x) o.0),
             w.below-is ∙ w.saturating_add-below.ensures ∙ sym o.1,
           ))
     ] in
