@@ -1,4 +1,4 @@
-use Rattle.std.proofs.Common.{get_or, Some, rules, ap}
+use Rattle.std.proofs.Common.{get_or, rules, ap}
 use Rattle.code.proofs.Targets.{checked_to_ok}
 use Rattle.machine.proofs.step.operation_at.Goals as goal
 
