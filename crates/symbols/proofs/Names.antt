@@ -1,15 +1,15 @@
 -- Definitions, types and uses of names in a tree that keeps the rules.
 use Rattle.std.proofs.Common.{◌≡◌, ℕ, Bool, true, false, cond, not, List, [], ◌∷◌, ◌++◌, Some, None, Option, sym, refl, ap, ◌∙◌, subst, append_assoc, append-nil}
 use Rattle.std.specs.Str.{bytes_eq}
-use Rattle.std.proofs.lemmas.Bool.{both_ways, or_parts, not-false}
+use Rattle.std.proofs.lemmas.Bool.{both_ways, or_parts, not-false, true≢false}
 use Rattle.grammar.specs.Tree.{Program}
 use Rattle.symbols.specs.declared.value_type.ValueType.{ValueType}
 use Rattle.symbols.specs.declared.refusal.NameRefusal.TheVariants.{SecondDefinition, MisusedName}
 use Rattle.symbols.specs.Occurrences.{Role, as_label, as_switch, as_array, of_type, in_switch, as_target, as_selector, as_variable, as_element, Occurrence, occurrences}
-use Rattle.symbols.specs.Symbols.{Kind, definition, declared_type, or_else, first_said, or_variable, or_untyped, Symbol, symbols, kind_of, type_of, kind_in}
+use Rattle.symbols.specs.Symbols.{Kind, a_label, a_switch, an_array, a_variable, definition, declared_type, or_else, first_said, or_variable, or_untyped, Symbol, symbols, kind_of, type_of, kind_in}
 use Rattle.symbols.specs.Types.{told}
 use Rattle.symbols.specs.Rules.{is_some, is_defined, is_typed, target, is_target, defines_again, second_definitions, suits, misused_names, accepted, verdict}
-use Rattle.symbols.specs.Laws.{In, here, later, Twice, Says, NamesAgree}
+use Rattle.symbols.specs.Laws.{In, here, later, Twice, Says, Wants, NamesAgree}
 use Rattle.symbols.proofs.Lists.{Split, in_to_split}
 use Rattle.symbols.proofs.Offences.{empty_left, empty_right, nothing_told, accepted_to_keeps_all}
 use Rattle.symbols.proofs.Table.{to_same, name_said}
@@ -148,6 +148,33 @@ all_suit o ss (p ∷ os) e (later i) =
     let b : Bool = not (suits (kind_in ss p.name.letters) p.role) in
     all_suit o ss os (empty_right (told b p.name.place) (misused_names ss os) e) i
 
+-- A use that suits what its name is has what it wants.
+suits_to_wants : (k : Kind) (r : Role) → suits k r ≡ true → Wants r k
+suits_to_wants k as_label e = tt
+suits_to_wants k (as_switch xs) e = tt
+suits_to_wants k (as_array l h) e = tt
+suits_to_wants k (of_type t) e = tt
+suits_to_wants a_label in_switch e = refl
+suits_to_wants (a_switch xs) in_switch e = absurd (true≢false (sym e))
+suits_to_wants (an_array l h) in_switch e = absurd (true≢false (sym e))
+suits_to_wants a_variable in_switch e = absurd (true≢false (sym e))
+suits_to_wants a_label as_target e = refl
+suits_to_wants (a_switch xs) as_target e = absurd (true≢false (sym e))
+suits_to_wants (an_array l h) as_target e = absurd (true≢false (sym e))
+suits_to_wants a_variable as_target e = absurd (true≢false (sym e))
+suits_to_wants a_label as_selector e = absurd (true≢false (sym e))
+suits_to_wants (a_switch xs) as_selector e = (xs, refl)
+suits_to_wants (an_array l h) as_selector e = absurd (true≢false (sym e))
+suits_to_wants a_variable as_selector e = absurd (true≢false (sym e))
+suits_to_wants a_label as_variable e = absurd (true≢false (sym e))
+suits_to_wants (a_switch xs) as_variable e = absurd (true≢false (sym e))
+suits_to_wants (an_array l h) as_variable e = absurd (true≢false (sym e))
+suits_to_wants a_variable as_variable e = refl
+suits_to_wants a_label as_element e = absurd (true≢false (sym e))
+suits_to_wants (a_switch xs) as_element e = absurd (true≢false (sym e))
+suits_to_wants (an_array l h) as_element e = (l, h, refl)
+suits_to_wants a_variable as_element e = absurd (true≢false (sym e))
+
 pub names_agree : (t : Program) → verdict t ≡ accepted → NamesAgree t
 names_agree t e =
     let once : second_definitions (occurrences t) [] (occurrences t) ≡ [] = accepted_to_keeps_all t e SecondDefinition in
@@ -158,4 +185,5 @@ names_agree t e =
       kind_is = λ o k i d. (name_said t o i).0 ∙ the_definition (occurrences t) once o k i d;
       type_is = λ o y i d. (name_said t o i).1 ∙ the_type (occurrences t) once o y i d;
       uses_suit = λ o i. all_suit o (symbols t) (occurrences t) (accepted_to_keeps_all t e MisusedName) i;
+      uses_want = λ o i. suits_to_wants (kind_in (symbols t) o.name.letters) o.role (all_suit o (symbols t) (occurrences t) (accepted_to_keeps_all t e MisusedName) i);
     }

@@ -1,12 +1,12 @@
 -- What the answer for a tree means, in words that do not speak of how it is computed: that a refusal is the least broken
 -- rule at its earliest place, and what an accepted tree has.
 use Rattle.std.specs.Prelude.{◌≡◌, ℕ, ◌+◌, ◌<◌, ◌≤◌, true, List, [], ◌∷◌, ◌++◌, pos, ◌+ℤ◌, ◌-ℤ◌, ◌≤ℤ◌, Some, Option, ◌≢◌}
-use Rattle.grammar.specs.Tree.{Bound, Program}
+use Rattle.grammar.specs.Tree.{Row, Name, Bound, Program}
 use Rattle.symbols.specs.declared.value_type.ValueType.{ValueType}
 use Rattle.symbols.specs.declared.refusal.NameRefusal.{NameRefusal}
 use Rattle.symbols.specs.Refusal.{number}
-use Rattle.symbols.specs.Occurrences.{Role, as_array, Occurrence, occurrences}
-use Rattle.symbols.specs.Symbols.{Kind, an_array, definition, declared_type, bound_value, cells, Symbol, count, symbols, kind_in, type_in, named_cells, hidden_cells}
+use Rattle.symbols.specs.Occurrences.{Role, as_label, as_switch, as_array, of_type, in_switch, as_target, as_selector, as_variable, as_element, Occurrence, occurrences}
+use Rattle.symbols.specs.Symbols.{Kind, a_label, a_switch, an_array, a_variable, definition, declared_type, bound_value, cells, Symbol, count, symbols, kind_in, type_in, named_cells, hidden_cells}
 use Rattle.symbols.specs.Rules.{target, is_some, suits, offences, accepted, refused, verdict}
 
 -- x stands in a list.
@@ -58,6 +58,19 @@ pub record Twice (os : List Occurrence) (o o' : Occurrence) : Type 0 where
 abbrev pub Says : {A : Type 0} → (Role → Option A) → Occurrence → Type 0
 Says f o = is_some (f o.role) ≡ true
 
+-- What each use wants of what its name is: a switch's list and a go to want a label, a go to with a subscript a switch,
+-- a variable a simple variable, and a variable with a subscript an array. A definition and a type's list want nothing.
+abbrev pub Wants : Role → Kind → Type 0
+Wants as_label k = Unit {0}
+Wants (as_switch xs) k = Unit {0}
+Wants (as_array l h) k = Unit {0}
+Wants (of_type t) k = Unit {0}
+Wants in_switch k = k ≡ a_label
+Wants as_target k = k ≡ a_label
+Wants as_selector k = (xs : Row Name) × (k ≡ a_switch xs)
+Wants as_variable k = k ≡ a_variable
+Wants as_element k = (l h : Bound) × (k ≡ an_array l h)
+
 -- Of an accepted tree: a name is defined once at most and typed once at most, labels and switches have no type, the
 -- table has the one definition and the one type, and every use agrees with it.
 pub record NamesAgree (t : Program) : Type 0 where
@@ -67,6 +80,7 @@ pub record NamesAgree (t : Program) : Type 0 where
   pub kind_is : (o : Occurrence) (k : Kind) → In o (occurrences t) → definition o.role ≡ Some k → kind_in (symbols t) o.name.letters ≡ k
   pub type_is : (o : Occurrence) (y : ValueType) → In o (occurrences t) → declared_type o.role ≡ Some y → type_in (symbols t) o.name.letters ≡ y
   pub uses_suit : (o : Occurrence) → In o (occurrences t) → suits (kind_in (symbols t) o.name.letters) o.role ≡ true
+  pub uses_want : (o : Occurrence) → In o (occurrences t) → Wants o.role (kind_in (symbols t) o.name.letters)
 
 -- An array's bounds are in order and near enough to 0, and its cells are as many as its subscripts, at least one.
 pub record BoundsInRange (l h : Bound) : Type 0 where

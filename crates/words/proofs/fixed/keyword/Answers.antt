@@ -1,4 +1,4 @@
-use Rattle.std.proofs.Common.{codes, refl, ◌∷◌, [], rules, arith}
+use Rattle.std.proofs.Common.{codes, refl, rules, arith}
 use Rattle.std.proofs.lemmas.Slice.Eq.{text_from_reads}
 use Rattle.words.proofs.fixed.keyword.Goals as goal
 

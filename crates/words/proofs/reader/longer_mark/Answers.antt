@@ -1,4 +1,4 @@
-use Rattle.std.proofs.Common.{get_or, drop, sym, ap, ◌∙◌, arith}
+use Rattle.std.proofs.Common.{drop, sym, ap, ◌∙◌}
 use Rattle.words.specs.Spelling.{two_byte_marks}
 use Rattle.words.specs.Words.{first_of}
 use Rattle.words.proofs.OneWord.{two_bytes}

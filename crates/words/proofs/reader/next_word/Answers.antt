@@ -1,4 +1,4 @@
-use Rattle.std.proofs.Common.{◌+◌, rules, ap, ◌∙◌, arith}
+use Rattle.std.proofs.Common.{◌+◌, rules, ap, ◌∙◌}
 use Rattle.std.specs.List.{prefix_len}
 use Rattle.words.specs.Spelling.{blank}
 use Rattle.words.proofs.NextWord.{next_at_end, word_to_next, refusal_to_next, part_to_end}

@@ -1,4 +1,4 @@
-use Rattle.std.proofs.Common.{◌≡◌, ◌≤◌, length, drop}
+use Rattle.std.proofs.Common.{◌≡◌, ◌≤◌, drop}
 use Rattle.words.proofs.WordByWord.{SoFar}
 use Rattle.words.proofs.WordTable.{words_held}
 use Rattle.words.proofs.table.cut_words.Given as goal
