@@ -1,30 +1,28 @@
 -- The ways through factors, variables and prefixes.
-use Rattle.std.proofs.Common.{◌≡◌, ℕ, suc, ◌+◌, ◌-◌, ◌<◌, ◌≤◌, true, false, cond, leb, List, [], ◌∷◌, length, Some, None, Ok, Err, Result, refl, ap, ◌∙◌, arith}
-use borrow.Author.Tests.{lt-leb}
+use Rattle.std.proofs.Common.{◌≡◌, ℕ, suc, ◌+◌, ◌<◌, true, List, [], ◌∷◌, length, Some, None, Ok, Err, Result, refl, ap, ◌∙◌, arith}
 use Rattle.words.specs.declared.token.Mark.TheVariants.{OpenRound, CloseRound, OpenSquare, CloseSquare}
 use Rattle.words.specs.Token.{Word}
-use Rattle.grammar.specs.declared.refusal.SentenceRefusal.TheVariants.{Unexpected, TooDeep}
 use Rattle.grammar.specs.Tree.{Name, Exp, literal, prefixed, bracketed, compared, Variable, whole, indexed, value_of}
-use Rattle.grammar.specs.Classes.{heads, Class, prefix_rank, operand_rank, the_mark, a_name, a_number, a_relation, a_prefix, Content, found, opens, levels_after}
-use Rattle.grammar.specs.Grammar.{Phrase, a, ranked, factor, variable, exp}
-use Rattle.grammar.specs.Parser.{begin, operators, Script, done, word, either, part, goto, within, variable_script, variable_rest, variable_factor, comparison_script, bracket_rest, bracket_script, factor_script, prefix_script, behind_factor, Around, State, at, met, meets, after, moved, if_found, refuses, refused, run, levels, onward}
+use Rattle.grammar.specs.Classes.{heads, prefix_rank, operand_rank, the_mark, a_name, a_number, a_relation, a_prefix, Content, found, opens, levels_after}
+use Rattle.grammar.specs.Grammar.{a, ranked, factor, variable, exp}
+use Rattle.grammar.specs.Parser.{begin, operators, done, word, part, goto, within, variable_script, variable_rest, variable_factor, comparison_script, bracket_rest, bracket_script, factor_script, prefix_script, behind_factor, Around, at, met, meets, after, moved, if_found, run, onward}
 use Rattle.grammar.specs.declared.operator.Prefix.{Prefix}
 use Rattle.grammar.proofs.Complete.{fresh, prefix_moves, prefix_opens}
-use Rattle.grammar.proofs.Found.{none_some, token_of, found_to_is}
+use Rattle.grammar.proofs.Found.{token_of}
 use Rattle.parser.specs.declared.node.Node.TheVariants.{Literal, Simple, Subscripted, Prefixed, Bracketed, Compared}
 use Rattle.parser.specs.declared.refusal.Refusal.{Refusal}
 use Rattle.parser.specs.declared.table.Parser.{Parser}
 use Rattle.parser.specs.Records.{ahead, View, view, ExpAt, VariableAt}
 use Rattle.parser.specs.Promises.{place_of, Took, Made, Moves, here, deeper, Goes, Fails, Read, Reads}
-use Rattle.parser.specs.Expecting.{Expected, NameExpected, NotTaken, Missed, Opened, IsTooDeep}
+use Rattle.parser.specs.Expecting.{Expected, NameExpected, NotTaken, Opened}
 use Rattle.parser.proofs.Tables.{word_left}
-use Rattle.parser.proofs.Moving.{moves_none, moves_trans, moves_took, moves_left, left_ahead}
-use Rattle.parser.proofs.Going.{goes_start, goes_alike, goes_word, goes_deeper, goes_left, goes_done, goes_made, goes_part, goes_part_deeper, fails_part, fails_here}
-use Rattle.parser.proofs.Holding.{moves_keep, made_keeps, keeps_trans, exp_stays, made_node}
+use Rattle.parser.proofs.Moving.{moves_none, moves_trans, moves_took, moves_left}
+use Rattle.parser.proofs.Going.{goes_start, goes_alike, goes_word, goes_left, goes_done, goes_made, goes_part, fails_part}
+use Rattle.parser.proofs.Holding.{made_keeps, exp_stays, made_node}
 use Rattle.parser.proofs.Naming.{next_place, next_named, name_taken}
 use Rattle.parser.proofs.Operators.{heads_rank}
 use Rattle.parser.proofs.Standing.{stands, made_read}
-use Rattle.parser.proofs.Stepping.{part_opened, part_deep, goes_first, goes_else_deeper, goes_opening, goes_closing, goes_behind_deeper, stops_missing, stops_missing_deeper, stops_deep}
+use Rattle.parser.proofs.Stepping.{part_opened, goes_first, goes_else_deeper, goes_opening, goes_closing, goes_behind_deeper}
 
 -- Where neither `(` nor a number comes, a factor is read as a variable; where no operator comes, an expression as a factor.
 as_variable : (limit end : ℕ) (ws : List Word) (d : ℕ) (k : Around (a factor)) → heads (the_mark OpenRound) ws ≡ None → heads a_number ws ≡ None

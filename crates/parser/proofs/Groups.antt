@@ -12,7 +12,7 @@ use Rattle.parser.specs.declared.node.Bound.{Bound as BoundRecord}
 use Rattle.parser.specs.declared.node.Node.TheVariants.{Group as GroupNode}
 use Rattle.parser.specs.declared.table.Parser.{Parser}
 use Rattle.parser.specs.Records.{ahead, NameAt, RowAt, GroupAt, bound_in}
-use Rattle.parser.specs.Promises.{Took, Made, Moves, here, deeper, Goes, Read, Passed}
+use Rattle.parser.specs.Promises.{Made, Moves, here, deeper, Goes, Read, Passed}
 use Rattle.parser.specs.Expecting.{Expected, Takes, Opened}
 use Rattle.parser.proofs.Tables.{word_left}
 use Rattle.parser.proofs.Moving.{moves_trans, moves_took}

@@ -1,23 +1,21 @@
 -- The ways through statements that hold other statements, and the refusal of a word that begins none.
-use Rattle.std.proofs.Common.{◌≡◌, ℕ, suc, true, length, Some, None, refl, ◌∙◌, arith}
+use Rattle.std.proofs.Common.{◌≡◌, ℕ, Some, None, refl, ◌∙◌, arith}
 use Rattle.words.specs.declared.token.Mark.TheVariants.{Semicolon, Becomes}
-use Rattle.words.specs.declared.token.Keyword.{Keyword}
 use Rattle.words.specs.declared.token.Keyword.TheVariants.{Begin, End, If, For, Go, In, Print, Stop}
 use Rattle.grammar.specs.declared.refusal.SentenceRefusal.TheVariants.{Unexpected}
 use Rattle.grammar.specs.Tree.{conditional, repeated, block}
-use Rattle.grammar.specs.Classes.{heads, the_mark, the_keyword, a_name, opens}
+use Rattle.grammar.specs.Classes.{heads, the_mark, the_keyword, a_name}
 use Rattle.grammar.specs.Grammar.{a, row, exp, element, statement}
-use Rattle.grammar.specs.Parser.{Script, begin, done, word, part, goto, statement_script, conditional_script, repetition_script, repetition_body, block_script, Around, at, moved}
-use Rattle.grammar.proofs.Found.{token_of}
+use Rattle.grammar.specs.Parser.{begin, done, word, part, goto, statement_script, conditional_script, repetition_script, repetition_body, block_script}
 use Rattle.parser.specs.declared.node.Node.TheVariants.{Conditional, Repeated}
 use Rattle.parser.specs.declared.refusal.Refusal.{Refusal}
 use Rattle.parser.specs.declared.table.Parser.{Parser}
 use Rattle.parser.specs.Records.{ahead, view, ExpAt, ElementAt, RowAt, StatementAt}
 use Rattle.parser.specs.Promises.{Made, Moves, here, deeper, Goes, Fails, Read}
-use Rattle.parser.specs.Expecting.{Expected, NameExpected, RefusedAt, Opened, IsTooDeep}
+use Rattle.parser.specs.Expecting.{Expected, NameExpected, RefusedAt, Opened}
 use Rattle.parser.proofs.Tables.{word_left}
 use Rattle.parser.proofs.Moving.{moves_none, moves_trans, moves_took}
-use Rattle.parser.proofs.Going.{goes_start, goes_alike, goes_deeper, goes_out, fails_here}
+use Rattle.parser.proofs.Going.{goes_start, goes_alike, goes_out}
 use Rattle.parser.proofs.Holding.{exp_stays, moves_keep, row_stays}
 use Rattle.parser.proofs.Naming.{next_place, next_named, name_taken}
 use Rattle.parser.proofs.Standing.{element_stays, statement_stays, block_at, stands, made_read}

@@ -1,14 +1,13 @@
 -- Words and nodes of a table of records.
-use Rattle.std.proofs.Common.{◌≡◌, ℕ, zero, suc, ◌<◌, ◌≤◌, true, cond, List, [], ◌∷◌, map, length, get_or, take, drop, set, is_some, Some, None, Option, sym, refl, ap, ◌∙◌, arith}
+use Rattle.std.proofs.Common.{◌≡◌, ℕ, zero, suc, ◌<◌, ◌≤◌, List, [], ◌∷◌, map, length, get_or, take, drop, set, Some, refl, ap, arith}
 use Rattle.words.specs.declared.word.Word.{Word as WordRecord}
 use Rattle.words.specs.Token.{Word}
 use Rattle.words.specs.Records.{word_in}
 use Rattle.parser.specs.declared.node.Node.{Node}
 use Rattle.parser.specs.declared.table.Record.{Record}
-use Rattle.grammar.specs.Classes.{heads, Class, Content, a_name}
+use Rattle.grammar.specs.Classes.{heads, Class, Content}
 use Rattle.grammar.proofs.Found.{none_some}
 use Rattle.parser.specs.declared.table.Parser.{Parser}
-use Rattle.parser.specs.Promises.{instead}
 use Rattle.parser.specs.Records.{words, nodes, all, ahead}
 
 -- A node that is put into the table leaves the words.

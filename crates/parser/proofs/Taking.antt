@@ -1,5 +1,5 @@
 -- What a class has of the next word, from what it has of the word in the record; and the word that is left.
-use Rattle.std.proofs.Common.{◌≡◌, ℕ, true, false, List, [], ◌∷◌, length, is_some, Some, None, Option, sym, refl, ap, ◌∙◌}
+use Rattle.std.proofs.Common.{◌≡◌, List, [], ◌∷◌, length, is_some, Some, None, Option, sym, refl, ap, ◌∙◌}
 use Rattle.words.specs.Token.{Word}
 use Rattle.grammar.specs.declared.refusal.SentenceRefusal.TheVariants.{Unexpected}
 use Rattle.grammar.specs.Classes.{heads, found, Class, Content, when}
@@ -7,7 +7,7 @@ use Rattle.grammar.proofs.Found.{none_some, some_same}
 use Rattle.parser.specs.declared.refusal.Refusal.{Refusal}
 use Rattle.parser.specs.declared.table.Parser.{Parser}
 use Rattle.parser.specs.Records.{ahead}
-use Rattle.parser.specs.Promises.{next, place_of, Took}
+use Rattle.parser.specs.Promises.{next, place_of}
 use Rattle.parser.specs.Expecting.{Finds, Comes, NotTaken, Missed}
 use Rattle.parser.proofs.Moving.{left_ahead}
 

@@ -166,10 +166,7 @@ fn allowed_prefix(rank: usize, o: Prefix) -> Option<Prefix>
 fn allowed_operator(rank: usize, bound: usize, o: Option<Operator>) -> Option<Operator>
     ensures { result ≡ between_ranks rank bound o }
 {
-    match o {
-        Some(o) if rank <= o.rank() && o.rank() <= bound => Some(o),
-        _ => None,
-    }
+    o.filter(|o| rank <= o.rank() && o.rank() <= bound)
 }
 
 // The operator that a reserved word writes.

@@ -136,7 +136,8 @@ impl Parser<'_> {
         Ok(all)
     }
 
-    // Statements, parted by semicolons.
+    // Statements, parted by semicolons. Statements hold such rows, so this is in the cycle of calls by its own name: `row`
+    // calls its part through a bound, and the measure of a cycle does not reach there.
     #[cycle(block_conditional_repetition_statement_statements_unlabelled)]
     fn statements(&mut self, levels: usize) -> Result<usize, Refusal>
         ensures moves { Moves self.old self.new }

@@ -46,10 +46,7 @@ impl Parser<'_> {
     {
         let mut left = first;
         let mut up_to = bound;
-        while let Some(o) = self.take(Operators {
-            rank,
-            bound: up_to,
-        }) {
+        while let Some(o) = self.take(Operators { rank, bound: up_to }) {
             let right = self.expression(o.rank() + 1, levels)?;
             left = self.make(Node::Joined(o, left, right));
             up_to = o.rank();

@@ -8,10 +8,10 @@ ghost use Rattle.parser.specs.Records.{ahead, Item_at};
 ghost use Rattle.parser.specs.Promises.{Moves, Read, Reads, here};
 ghost use Rattle.parser.specs.Whole.{ReadsProgram};
 
+use crate::declaration::GroupPart;
 use crate::node::Node;
 use crate::refusal::Refusal;
 use crate::row::RowPart;
-use crate::declaration::GroupPart;
 use crate::table::Parser;
 use grammar::refusal::SentenceRefusal;
 use words::token::{Keyword, Mark};

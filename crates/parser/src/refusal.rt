@@ -20,6 +20,7 @@ pub enum ParseRefusal {
     Sentence(Refusal),
 }
 
+// What refuses the words refuses the text.
 impl From<words::refusal::Refusal> for ParseRefusal {
     ghost from_gives = { λ e r. r ≡ Word e };
 
@@ -28,6 +29,7 @@ impl From<words::refusal::Refusal> for ParseRefusal {
     }
 }
 
+// So does what refuses the sentence.
 impl From<Refusal> for ParseRefusal {
     ghost from_gives = { λ e r. r ≡ Sentence e };
 

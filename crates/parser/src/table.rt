@@ -34,6 +34,7 @@ impl WordSlot for Record {
 pub struct Parser<'a> {
     pub text: &'a [u8],
     pub table: &'a mut [Record],
+    // The words take the first `count` records: the lent table is longer, and goes back whole to the caller.
     pub count: usize,
     pub at: usize,
     pub made: usize,

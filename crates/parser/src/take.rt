@@ -84,10 +84,12 @@ impl Parser<'_> {
         ensures { result ≡ instead self.now.at (heads a_name (ahead self.now)) }
     {
         match self.peek() {
-            Some(Word {
-                token: Token::Name(_),
-                ..
-            }) => Some(self.at),
+            Some(
+                Word {
+                    token: Token::Name(_),
+                    ..
+                },
+            ) => Some(self.at),
             _ => None,
         }
     }

@@ -159,8 +159,10 @@ statements-returns-in_err-next t c =
 
 pub statements-make-all-requires : goal.statements-make-all-requires
 statements-make-all-requires t c =
-    record { paid = row_paid statement c.args.levels c.statement.new.self c.in_ok-all.all c.loop-self.self c.loop-self.all c.take.new.self c.statement-in-Some.new.self
-    c.loop-self.invariant c.in-Some.ensures.took c.in_ok-next.ensures.moves }
+    record {
+      paid = row_paid statement c.args.levels c.statement.new.self c.in_ok-all.all c.loop-self.self c.loop-self.all c.take.new.self c.statement-in-Some.new.self
+          c.loop-self.invariant c.in-Some.ensures.took c.in_ok-next.ensures.moves;
+    }
 
 pub statements-loop-self-smaller : goal.statements-loop-self-smaller
 statements-loop-self-smaller t c =

@@ -1,14 +1,13 @@
-use Rattle.std.proofs.Common.{refl, ◌≡◌, suc, ◌+◌, ◌≤◌, sym, ap, ◌∙◌, add-one, arith}
+use Rattle.std.proofs.Common.{refl, ◌≡◌, suc, ◌+◌, ap, ◌∙◌, add-one, arith}
 use Rattle.std.proofs.lemmas.Result.{err_from_is_err_and}
 use Rattle.words.specs.declared.token.Mark.TheVariants.{OpenRound, OpenSquare}
-use Rattle.grammar.specs.Classes.{the_mark, a_name, an_operator, rank}
+use Rattle.grammar.specs.Classes.{the_mark, an_operator, rank}
 use Rattle.grammar.specs.Parser.{bracket_script}
 use Rattle.parser.specs.Records.{ExpAt}
 use Rattle.parser.specs.Promises.{Moves}
 use Rattle.parser.proofs.Tables.{word_left}
 use Rattle.parser.proofs.Moving.{moves_trans, moves_took, moves_left}
-use Rattle.parser.proofs.Going.{goes_left, goes_part, fails_part, fails_part_deeper, reads_behind}
-use Rattle.parser.proofs.Naming.{name_taken}
+use Rattle.parser.proofs.Going.{goes_left, goes_part, fails_part, reads_behind}
 use Rattle.parser.proofs.Operators.{operators_more, operators_fail, operators_end}
 use Rattle.parser.proofs.Stepping.{part_deep, goes_first, stops_missing, stops_missing_deeper, stops_behind_deeper, stops_deep}
 use Rattle.parser.proofs.Factors.{goes_as_variable, goes_as_factor, variable_reads, number_read, bracket_takes, bracket_opened, bracket_closing, bracket_read, comparison_begun, comparison_inside, comparison_read, prefix_begun, prefix_fails, prefix_read, variable_begins, variable_begun, whole_read, subscript_begun, subscript_inside, indexed_read}

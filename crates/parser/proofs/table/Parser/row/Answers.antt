@@ -22,8 +22,10 @@ returns-in_err-next g c =
 
 pub make-all-requires : goal.make-all-requires
 make-all-requires g c =
-    record { paid = row_paid g.P.RowPart.part c.args.levels c.read.new.parser c.in_ok-all.all c.loop-self.self c.loop-self.all c.take.new.self c.read-in-Some.new.parser
-    c.loop-self.invariant c.in-Some.ensures.took c.in_ok-next.ensures.moves }
+    record {
+      paid = row_paid g.P.RowPart.part c.args.levels c.read.new.parser c.in_ok-all.all c.loop-self.self c.loop-self.all c.take.new.self c.read-in-Some.new.parser
+          c.loop-self.invariant c.in-Some.ensures.took c.in_ok-next.ensures.moves;
+    }
 
 pub loop-self-smaller : goal.loop-self-smaller
 loop-self-smaller g c =
