@@ -1,5 +1,5 @@
 -- Heeding the declarations of items at a node, by what the node is.
-use Rattle.std.proofs.Common.{◌≡◌, ℕ, ◌<◌, List, [], ◌∷◌, None, Option, refl}
+use Rattle.std.proofs.Common.{◌≡◌, ℕ, List, [], ◌∷◌, None, Option, refl}
 use Rattle.symbols.specs.declared.value_type.ValueType.TheVariants.{Integer as IntegerType, Boolean as BooleanType}
 use Rattle.parser.specs.declared.node.Node.{Node}
 use Rattle.parser.specs.declared.node.Node.TheVariants.{More, Labelled, Conditional, Repeated, Integer, Boolean, Array, Switch}
@@ -14,20 +14,6 @@ use Rattle.analysis.proofs.Said.{Silent}
 use Rattle.analysis.proofs.Silence.{silent_append, silent_each, silent_exp, silent_element, silent_in_switch}
 use Rattle.analysis.proofs.Heeded.{heeds_silent, heeds_two, heeds_first}
 use Rattle.analysis.proofs.Standing.{Stands, a_row, a_sequence, a_label, a_condition, a_repetition, an_assignment, a_jump, a_choice, an_input, a_print, a_stop, a_comment, integers, booleans, arrays, a_switch}
-
--- The parts of a node stand before it.
-pub joined_before : {v : View} {i a b : ℕ} {t : Row Item} → Stands v i (More a b) t → (a < i) × (b < i)
-joined_before (a_row l m h k) = (l, m)
-joined_before (a_sequence l m h k) = (l, m)
-
-pub labelled_before : {v : View} {i w a : ℕ} {t : Row Item} → Stands v i (Labelled w a) t → a < i
-labelled_before (a_label n l h) = l
-
-pub condition_before : {v : View} {i p a b : ℕ} {t : Row Item} → Stands v i (Conditional p a b) t → b < i
-condition_before (a_condition l h) = l
-
-pub repetition_before : {v : View} {i p w a b : ℕ} {t : Row Item} → Stands v i (Repeated p w a b) t → b < i
-repetition_before (a_repetition l h) = l
 
 -- What is heeded in all items that can stand at a node.
 abbrev Heeded : Pass → View → List Name → List Occurrence → ℕ → List NameRecord → List NameRecord → Option ℕ → Type 0

@@ -1,7 +1,7 @@
 -- Rows of expressions as rows of elements.
 use Rattle.std.proofs.Common.{◌≡◌, ℕ, List, ◌++◌, refl, ap}
-use Rattle.grammar.specs.Tree.{Row, one, more, Exp, Variable, whole, indexed, value_of, Element, single}
-use Rattle.parser.specs.Records.{View, ExpAt, VariableAt, ElementAt, RowAt}
+use Rattle.grammar.specs.Tree.{Row, one, more, Exp, Element, single}
+use Rattle.parser.specs.Records.{View, ExpAt, ElementAt, RowAt}
 use Rattle.symbols.specs.Occurrences.{each}
 
 -- A row of expressions is one of single elements.

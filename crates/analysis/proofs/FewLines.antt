@@ -1,11 +1,11 @@
 -- The symbol table of a sentence has at most one line for each of its words that are names, and those are few.
-use Rattle.std.proofs.Common.{◌≡◌, ℕ, suc, ◌+◌, ◌*◌, ◌≤◌, Bool, true, false, cond, List, [], ◌∷◌, ◌++◌, length, refl, ap, arith, length-append}
-use Rattle.words.specs.Token.{Token, Word, name, number, keyword, mark, sign, scaling, relation}
+use Rattle.std.proofs.Common.{◌≡◌, suc, ◌+◌, ◌*◌, ◌≤◌, Bool, true, false, cond, List, [], ◌∷◌, ◌++◌, length, refl, ap, arith, length-append}
+use Rattle.words.specs.Token.{Word}
 use Rattle.grammar.specs.Tree.{Name}
-use Rattle.grammar.specs.Meaning.{name_count, names as name_words}
+use Rattle.grammar.specs.Meaning.{names as name_words}
 use Rattle.grammar.proofs.Names.{few}
 use Rattle.symbols.specs.Occurrences.{Occurrence, occurrences}
-use Rattle.symbols.specs.Symbols.{has_name, with_name, names_from, names, numbered, symbols, kind_of, cells}
+use Rattle.symbols.specs.Symbols.{has_name, with_name, names_from, names, symbols}
 use Rattle.symbols.specs.TextOrder.{name_at, named_words, names_of}
 use Rattle.symbols.proofs.InText.{names_in_text}
 use Rattle.symbols.proofs.Table.{lines_differ}

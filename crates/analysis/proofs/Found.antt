@@ -3,7 +3,7 @@ use Rattle.std.proofs.Common.{◌≡◌, ℕ, true, List, refl, ◌∙◌}
 use Rattle.std.proofs.lemmas.Bool.{lt-ltb}
 use Rattle.grammar.specs.Tree.{Row, one, more, Name, labelled, conditional, repeated, assigned, go, switched, input, printed, stop, sequence, Group, Item, comment, integer, boolean, array, switch, action}
 use Rattle.parser.specs.declared.node.Node.{Node}
-use Rattle.parser.specs.declared.node.Node.TheVariants.{Simple, More, Labelled, Conditional, Repeated, Assigned, Go, Switched, Input, Printed, Stop, Comment, Integer, Boolean, Array, Group as GroupNode, Switch}
+use Rattle.parser.specs.declared.node.Node.TheVariants.{Simple, More, Labelled, Conditional, Repeated, Assigned, Go, Switched, Input, Printed, Stop, Comment, Integer, Boolean, Array, Switch}
 use Rattle.parser.specs.declared.table.Record.{Record}
 use Rattle.parser.specs.Records.{View, nodes, node, NameAt, GroupAt, RowAt, Item_at}
 use Rattle.analysis.specs.Views.{node_of}

@@ -3,7 +3,6 @@ pub mod EarlierPlace
 pub mod Rows
 pub mod Parts
 pub mod Searching
-pub mod LineSearching
 pub mod NameLines
 pub mod Stands
 pub mod Found
@@ -20,7 +19,6 @@ pub mod Silence
 pub mod LineOf
 pub mod Heeded
 pub mod OneDeclared
-pub mod NodeIs
 pub mod Standing
 pub mod RowsAt
 pub mod Declared

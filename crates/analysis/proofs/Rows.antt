@@ -23,11 +23,6 @@ module _ (v : View) (i a b : ℕ) (joins : node v i ≡ More a b) where
       let Q : ℕ → Type 0 = λ k. GroupAt v g k in
       both r s (each f hs) (f g) (left hs (subst P p h.5)) (right g (subst Q q h.6))
 
-  -- Its parts stand before it.
-  pub groups_before : (gs : Row Group) → RowAt GroupAt v gs i → a < i
-  groups_before (one g) h = let n = h.2.1 in let z : ◌≡◌ {A = ℕ} 0 1 = cc in absurd (omega arith)
-  groups_before (more hs g) h = let n = h.2 in let p : h.0 ≡ a = cc in let l : h.0 < i = h.3 in omega arith
-
 -- A row of groups at any other node is one group.
 pub groups_single : (v : View) (i : ℕ) → ((a b : ℕ) → node v i ≡ More a b → ⊥) → (f : Group → List ℕ) (s : Option ℕ) → ((g : Group) → GroupAt v g i → s ≡ earliest_of (f g)) → (gs : Row Group) → RowAt GroupAt v gs i → s ≡ earliest_of (each f gs)
 groups_single v i single f s one-group (one g) h = one-group g h
@@ -91,12 +86,6 @@ items_at v i (one (action (sequence s u))) h = a_sequence h.0 h.1 h.2 h.3 h.4 h.
 
 -- Bounds of items at a node that joins two.
 module _ (v : View) (i a b : ℕ) (joins : node v i ≡ More a b) where
-  pub items_before : {t : Row Item} → Items v i t → (a < i) × (b < i)
-  items_before (a_row c d n l m h k) = let p : c ≡ a = cc in let q : d ≡ b = cc in (omega arith, omega arith)
-  items_before (a_sequence c d n l m h k) = let p : c ≡ a = cc in let q : d ≡ b = cc in (omega arith, omega arith)
-  items_before (arrays g n h) = let z : ◌≡◌ {A = ℕ} 0 1 = cc in absurd (omega arith)
-  items_before (no_bounds p e) = absurd (both_ways (is_plain (node v i)) (ap is_plain joins) p)
-
   pub items_joined : (r s : Option ℕ) → ((t : Row Item) → RowAt Item_at v t a → r ≡ earliest_of (each item_bounds t)) → ((t : Row Item) → RowAt Item_at v t b → s ≡ earliest_of (each item_bounds t)) → {t : Row Item} → Items v i t → earlier_of r s ≡ earliest_of (each item_bounds t)
   items_joined r s left right (a_row {ts} {x} c d n l m h k) =
       let p : c ≡ a = cc in

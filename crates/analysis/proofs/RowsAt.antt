@@ -1,5 +1,5 @@
 -- Rows of names and of groups at a node, one part at a time.
-use Rattle.std.proofs.Common.{◌≡◌, ℕ, ◌<◌, List, Option, ap, ◌∙◌, subst, arith}
+use Rattle.std.proofs.Common.{◌≡◌, ℕ, List, Option, ap, ◌∙◌, subst, arith}
 use Rattle.parser.specs.declared.node.Node.TheVariants.{Simple, More, Group as GroupNode}
 use Rattle.parser.specs.declared.node.Bound.{Bound as BoundRecord}
 use Rattle.parser.specs.Records.{View, node, bound_in, Named, NameAt, GroupAt, RowAt}
@@ -27,17 +27,6 @@ module _ {A : Type 0} (P : View → A → ℕ → Type 0) (v : View) (i a b : �
       let L : ℕ → Type 0 = λ k. RowAt P v xs k in
       let R : ℕ → Type 0 = λ k. P v x k in
       heeds_two (left xs (subst L q h.5)) (right (one x) (subst R u h.6))
-
-  -- Its parts stand before it.
-  pub row_before : (xs : Row A) → RowAt P v xs i → (a < i) × (b < i)
-  row_before (one x) h = absurd (never x h)
-  row_before (more xs x) h =
-      let n = h.2 in
-      let q : h.0 ≡ a = cc in
-      let u : h.1 ≡ b = cc in
-      let l : h.0 < i = h.3 in
-      let m : h.1 < i = h.4 in
-      (omega arith, omega arith)
 
 -- A row at any other node is one part.
 pub row_single : {A : Type 0} (P : View → A → ℕ → Type 0) (v : View) (i : ℕ) → ((a b : ℕ) → node v i ≡ More a b → ⊥) → (f : A → List Occurrence) {p : Pass} {ns : List Name} {whole : List Occurrence} {lines lines' : List NameRecord} {r : Option ℕ} → ((x : A) → P v x i → Heeds p v ns whole (f x) lines lines' r) → (xs : Row A) → RowAt P v xs i → Heeds p v ns whole (each f xs) lines lines' r

@@ -1,21 +1,15 @@
--- One step of looking for a name: what is left of the names gives what all of them give.
-use Rattle.std.proofs.Common.{◌≡◌, ℕ, ◌+◌, ◌<◌, ◌≤◌, Bool, true, false, cond, List, map, length, get_or, drop, Some, None, sym, ap, ◌∙◌}
+-- The first of some items that has the letters sought, by its place in the list of their letters.
+use Rattle.std.proofs.Common.{◌≡◌, ℕ, ◌+◌, cond, List, [], ◌∷◌, map, Some, Option, refl, ap}
+use Rattle.std.specs.List.{position_from}
 use Rattle.std.specs.Str.{bytes_eq}
-use Rattle.std.proofs.lemmas.List.{drop_more, drop_all}
 use Rattle.analysis.specs.Search.{index_from}
+use Rattle.analysis.specs.LineSearch.{line_from}
 
-module _ {W : Type 0} (f : W → List ℕ) (x : List ℕ) (ns : List W) (i : ℕ) where
-  one_step : (d : W) → i < length ns → index_from i x (map f (drop i ns)) ≡ cond (bytes_eq (f (get_or ns i d)) x) (Some i) (index_from (i + 1) x (map f (drop (i + 1) ns)))
-  one_step d h = ap (λ (l : List W). index_from i x (map f l)) (drop_more ns i d h)
+module _ {W : Type 0} (f : W → List ℕ) (x : List ℕ) where
+  pub first_index : (ws : List W) (i : ℕ) → position_from (λ w. bytes_eq (f w) x) i ws ≡ index_from i x (map f ws)
+  first_index [] i = refl
+  first_index (w ∷ ws) i = ap (λ (o : Option ℕ). cond (bytes_eq (f w) x) (Some i) o) (first_index ws (i + 1))
 
-  choice : (d : W) (b : Bool) → b ≡ bytes_eq (f (get_or ns i d)) x → i < length ns → index_from i x (map f (drop i ns)) ≡ cond b (Some i) (index_from (i + 1) x (map f (drop (i + 1) ns)))
-  choice d b e h = one_step d h ∙ ap (λ (t : Bool). cond t (Some i) (index_from (i + 1) x (map f (drop (i + 1) ns)))) (sym e)
-
-  pub found_here : (d : W) (b : Bool) → b ≡ bytes_eq (f (get_or ns i d)) x → b ≡ true → i < length ns → index_from i x (map f (drop i ns)) ≡ Some i
-  found_here d b e t h = choice d b e h ∙ ap (λ (c : Bool). cond c (Some i) (index_from (i + 1) x (map f (drop (i + 1) ns)))) t
-
-  pub not_here : (d : W) (b : Bool) → b ≡ bytes_eq (f (get_or ns i d)) x → b ≡ false → i < length ns → index_from i x (map f (drop i ns)) ≡ index_from (i + 1) x (map f (drop (i + 1) ns))
-  not_here d b e t h = choice d b e h ∙ ap (λ (c : Bool). cond c (Some i) (index_from (i + 1) x (map f (drop (i + 1) ns)))) t
-
-  pub at_end : length ns ≤ i → index_from i x (map f (drop i ns)) ≡ None
-  at_end h = ap (λ (l : List W). index_from i x (map f l)) (drop_all i ns h)
+  pub first_line : (ws : List W) (i : ℕ) → position_from (λ w. bytes_eq x (f w)) i ws ≡ line_from i x (map f ws)
+  first_line [] i = refl
+  first_line (w ∷ ws) i = ap (λ (o : Option ℕ). cond (bytes_eq x (f w)) (Some i) o) (first_line ws (i + 1))

@@ -1,6 +1,6 @@
 -- The name table while it is filled: which names it has lines for, how words lead to them, and what each line says when
 -- some occurrences were heeded.
-use Rattle.std.specs.Prelude.{◌≡◌, ℕ, ◌<◌, ◌≤◌, List, [], ◌∷◌, map, length, get_or, Some, Option, slice_index, slice_index_or}
+use Rattle.std.specs.Prelude.{◌≡◌, ℕ, ◌<◌, ◌≤◌, List, map, length, get_or, Some, Option, slice_index, slice_index_or}
 use Rattle.grammar.specs.Tree.{Name}
 use Rattle.parser.specs.declared.table.Record.{Record}
 use Rattle.parser.specs.Records.{View, nodes, Named}

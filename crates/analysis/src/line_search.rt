@@ -25,10 +25,7 @@ pub fn find_line(
 ) -> Option<usize>
     ensures { result ≡ line_from 0 sought.now (map (line_letters text.now records.now) names.now) }
 {
-    for i in 0..names.len() {
-        if line_has_letters(text, records, names[i].word, sought) {
-            return Some(i);
-        }
-    }
-    None
+    names
+        .iter()
+        .position(|line| line_has_letters(text, records, line.word, sought))
 }

@@ -19,10 +19,7 @@ fn has_letters(text: &[u8], w: Word, sought: &[u8]) -> bool
 pub fn find(text: &[u8], names: &[Word], sought: &[u8]) -> Option<usize>
     ensures { result ≡ index_from 0 sought.now (map (letters_in text.now) names.now) }
 {
-    for i in 0..names.len() {
-        if has_letters(text, names[i], sought) {
-            return Some(i);
-        }
-    }
-    None
+    names
+        .iter()
+        .position(|name| has_letters(text, *name, sought))
 }

@@ -1,9 +1,8 @@
-use Rattle.std.proofs.Common.{◌≡◌, List, get_or, sym, ap, ◌∙◌, arith}
-use Rattle.parser.specs.declared.node.Node.{Node}
-use Rattle.parser.specs.declared.node.Node.TheVariants.{Empty, More, Array}
+use Rattle.std.proofs.Common.{◌≡◌, sym, ◌∙◌}
+use Rattle.parser.specs.declared.node.Node.TheVariants.{More, Array}
 use Rattle.parser.specs.Records.{node}
 use Rattle.analysis.proofs.Found.{items_are}
-use Rattle.analysis.proofs.Rows.{items_at, items_joined, items_before, items_arrays, items_plain}
+use Rattle.analysis.proofs.Rows.{items_at, items_joined, items_arrays, items_plain}
 use Rattle.analysis.proofs.bounds.+bounds_offence.Goals as goal
 
 pub returns-in-More : goal.returns-in-More

@@ -1,10 +1,9 @@
-use Rattle.std.proofs.Common.{◌≡◌, ◌<◌, List, get_or, sym, ap, ◌∙◌, arith}
-use Rattle.parser.specs.declared.node.Node.{Node}
-use Rattle.parser.specs.declared.node.Node.TheVariants.{Empty, More}
+use Rattle.std.proofs.Common.{◌≡◌, sym, ◌∙◌}
+use Rattle.parser.specs.declared.node.Node.TheVariants.{More}
 use Rattle.parser.specs.Records.{node}
 use Rattle.symbols.specs.Rules.{group_bounds}
 use Rattle.analysis.proofs.Found.{groups_are}
-use Rattle.analysis.proofs.Rows.{groups_joined, groups_before, groups_single}
+use Rattle.analysis.proofs.Rows.{groups_joined, groups_single}
 use Rattle.analysis.proofs.bounds.+groups_offence.Goals as goal
 
 pub returns-in-More : goal.returns-in-More

@@ -1,11 +1,10 @@
-use Rattle.std.proofs.Common.{arith}
 use Rattle.symbols.specs.declared.value_type.ValueType.TheVariants.{Integer as IntegerType, Boolean as BooleanType}
 use Rattle.symbols.specs.Occurrences.{as_label, as_switch, of_type}
 use Rattle.analysis.specs.Heeding.{label, switch, integer, boolean}
 use Rattle.analysis.proofs.Heeded.{heeds_as}
 use Rattle.analysis.proofs.Found.{items_are}
 use Rattle.analysis.proofs.Standing.{stands_as}
-use Rattle.analysis.proofs.Declared.{joined_before, labelled_before, condition_before, repetition_before, heeds_joined, heeds_labelled, heeds_condition, heeds_repetition, heeds_arrays, heeds_integers, heeds_booleans, heeds_switch, heeds_rest}
+use Rattle.analysis.proofs.Declared.{heeds_joined, heeds_labelled, heeds_condition, heeds_repetition, heeds_arrays, heeds_integers, heeds_booleans, heeds_switch, heeds_rest}
 use Rattle.analysis.proofs.declare.+declare_all.Goals as goal
 
 pub returns-in-More : goal.returns-in-More

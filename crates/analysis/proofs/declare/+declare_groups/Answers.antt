@@ -4,7 +4,7 @@ use Rattle.parser.specs.Records.{node, GroupAt}
 use Rattle.symbols.specs.Occurrences.{as_array, in_group}
 use Rattle.analysis.proofs.Heeded.{heeds_as}
 use Rattle.analysis.proofs.Found.{groups_are}
-use Rattle.analysis.proofs.RowsAt.{row_joined, row_before, row_single, group_never_joins, group_role, group_row}
+use Rattle.analysis.proofs.RowsAt.{row_joined, row_single, group_never_joins, group_role, group_row}
 use Rattle.analysis.proofs.declare.+declare_groups.Goals as goal
 
 pub returns-in-More : goal.returns-in-More

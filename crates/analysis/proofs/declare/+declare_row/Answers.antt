@@ -5,7 +5,7 @@ use Rattle.parser.specs.Records.{node, NameAt}
 use Rattle.symbols.specs.Occurrences.{at}
 use Rattle.analysis.proofs.Heeded.{heeds_as}
 use Rattle.analysis.proofs.Found.{names_are}
-use Rattle.analysis.proofs.RowsAt.{row_joined, row_before, row_single, name_never_joins, name_word}
+use Rattle.analysis.proofs.RowsAt.{row_joined, row_single, name_never_joins, name_word}
 use Rattle.analysis.proofs.declare.+declare_row.Goals as goal
 
 pub returns-in-More : goal.returns-in-More

@@ -1,21 +1,15 @@
-use Rattle.std.proofs.Common.{◌<◌, ◌≤◌, length, sym, ◌∙◌, arith}
+use Rattle.std.proofs.Common.{rules, tests, ◌∙◌}
+use Rattle.std.specs.Str.{bytes_eq}
+use Rattle.std.proofs.lemmas.Iterator.Search.{position_from_yields_List}
+use Rattle.std.proofs.lemmas.Iterator.Adapters.{position_from-zero}
+use Rattle.std.proofs.lemmas.Iterator.{YieldsList-from_slice}
+use Rattle.analysis.specs.declared.symbol.NameRecord.{NameRecord}
 use Rattle.analysis.specs.LineSearch.{line_letters}
-use Rattle.analysis.proofs.LineSearching.{found_here, not_here, at_end}
+use Rattle.analysis.proofs.Searching.{first_line}
 use Rattle.analysis.proofs.line_search.find_line.Goals as goal
-
-pub returns-then-line_has_letters : goal.returns-then-line_has_letters
-returns-then-line_has_letters c =
-    let l : c.loop-i.i < length c.args.names.now = omega arith in
-    sym (found_here (line_letters c.args.text.now c.args.records.now) c.args.sought.now c.args.names.now c.loop-i.i _ c.line_has_letters.result c.line_has_letters.ensures c.if-line_has_letters.true l)
-    ∙ c.loop-i.invariant
-
-pub loop-i-preserved : goal.loop-i-preserved
-loop-i-preserved c =
-    let l : c.loop-i.i < length c.args.names.now = omega arith in
-    sym (not_here (line_letters c.args.text.now c.args.records.now) c.args.sought.now c.args.names.now c.loop-i.i _ c.line_has_letters.result c.line_has_letters.ensures c.if-line_has_letters.false l)
-    ∙ c.loop-i.invariant
 
 pub returns : goal.returns
 returns c =
-    let l : length c.args.names.now ≤ c.loop-i.i = omega arith in
-    sym (at_end (line_letters c.args.text.now c.args.records.now) c.args.sought.now c.args.names.now c.loop-i.i l) ∙ c.loop-i.invariant
+    let here = λ (w : NameRecord). bytes_eq c.args.sought.now (line_letters c.args.text.now c.args.records.now w) in
+    position_from_yields_List here _ _ c.position.result c.position.ensures.ran (YieldsList-from_slice c.args.names.now (cc)) (λ x b q k. search (rules, tests))
+    ∙ (position_from-zero here c.args.names.now ∙ first_line (line_letters c.args.text.now c.args.records.now) c.args.sought.now c.args.names.now 0)

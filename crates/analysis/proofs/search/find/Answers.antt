@@ -1,21 +1,15 @@
-use Rattle.std.proofs.Common.{◌<◌, ◌≤◌, length, sym, ◌∙◌, arith}
+use Rattle.std.proofs.Common.{rules, tests, ◌∙◌}
+use Rattle.std.specs.Str.{bytes_eq}
+use Rattle.std.proofs.lemmas.Iterator.Search.{position_from_yields_List}
+use Rattle.std.proofs.lemmas.Iterator.Adapters.{position_from-zero}
+use Rattle.std.proofs.lemmas.Iterator.{YieldsList-from_slice}
+use Rattle.words.specs.declared.word.Word.{Word}
 use Rattle.analysis.specs.Letters.{letters_in}
-use Rattle.analysis.proofs.Searching.{found_here, not_here, at_end}
+use Rattle.analysis.proofs.Searching.{first_index}
 use Rattle.analysis.proofs.search.find.Goals as goal
-
-pub returns-then-has_letters : goal.returns-then-has_letters
-returns-then-has_letters c =
-    let l : c.loop-i.i < length c.args.names.now = omega arith in
-    sym (found_here (letters_in c.args.text.now) c.args.sought.now c.args.names.now c.loop-i.i _ c.has_letters.result c.has_letters.ensures c.if-has_letters.true l)
-    ∙ c.loop-i.invariant
-
-pub loop-i-preserved : goal.loop-i-preserved
-loop-i-preserved c =
-    let l : c.loop-i.i < length c.args.names.now = omega arith in
-    sym (not_here (letters_in c.args.text.now) c.args.sought.now c.args.names.now c.loop-i.i _ c.has_letters.result c.has_letters.ensures c.if-has_letters.false l)
-    ∙ c.loop-i.invariant
 
 pub returns : goal.returns
 returns c =
-    let l : length c.args.names.now ≤ c.loop-i.i = omega arith in
-    sym (at_end (letters_in c.args.text.now) c.args.sought.now c.args.names.now c.loop-i.i l) ∙ c.loop-i.invariant
+    let here = λ (w : Word). bytes_eq (letters_in c.args.text.now w) c.args.sought.now in
+    position_from_yields_List here _ _ c.position.result c.position.ensures.ran (YieldsList-from_slice c.args.names.now (cc)) (λ x b q k. search (rules, tests))
+    ∙ (position_from-zero here c.args.names.now ∙ first_index (letters_in c.args.text.now) c.args.sought.now c.args.names.now 0)
