@@ -41,14 +41,14 @@ impl<R: Roll> LeaverFilter<R> {
     pub fn new(roll: R, group: usize) -> Result<LeaverFilter<R>, FilterRefusal<R>>
         ensures { MatchResult result (λ f. MadeOver (stands_for_zero R.Figure.Figures.kind R.Figure.Figures.means) group (R.holds roll) (⟦<LeaverFilter<R> as Roll>⟧.holds f)) (λ e. (IsGroupSize group → ⊥) × (e ≡ GroupSize roll)) }
     {
-        match group {
-            1..=64 => Ok(LeaverFilter {
-                roll,
-                behind: group - 1,
-                left: 0,
-            }),
-            _ => Err(FilterRefusal::GroupSize(roll)),
+        if group < 1 || group > 64 {
+            return Err(FilterRefusal::GroupSize(roll));
         }
+        Ok(LeaverFilter {
+            roll,
+            behind: group - 1,
+            left: 0,
+        })
     }
 }
 

@@ -1,7 +1,13 @@
 use Rattle.std.proofs.Common.{◌≡◌, get_or, pos, ◌-ℤ◌, neg_ℤ, rules, arith, w32, to_z, of_z}
 use Rattle.std.proofs.lemmas.Int.{ints}
-use Rattle.rolls.proofs.Signs.{minus_found}
+use Rattle.rolls.proofs.Signs.{minus_found, minus_none}
 use Rattle.rolls.proofs.file.read_line.Goals as goal
+
+pub returns-in_err-number : goal.returns-in_err-number
+returns-in_err-number g c =
+    let bytes = c.args.bytes.now in
+    let minus : get_or bytes 0 0 ≡ 45 = search rules in
+    rw c.from_residual.ensures (minus_none g.F.LineFigures.unsigned bytes (omega arith) minus c.in_err-number.ensures.line)
 
 pub returns-in-45 : goal.returns-in-45
 returns-in-45 g c =

@@ -4,8 +4,8 @@ use Rattle.rolls.specs.Groups.{Keeps, groups, kept, stayers}
 use Rattle.rolls.proofs.Grouping.{keeps_stayers}
 use Rattle.rolls.proofs.leavers.LeaverFilter.new.Goals as goal
 
-pub returns-in-1-to-64 : goal.returns-in-1-to-64
-returns-in-1-to-64 g c =
+pub returns : goal.returns
+returns g c =
     let z : g.row.R-Figure.Denot → Bool = stands_for_zero g.R.Figure.Figures.kind g.R.Figure.Figures.means in
     let group = c.args.group in
     let held = g.R.Roll.holds c.args.roll in
