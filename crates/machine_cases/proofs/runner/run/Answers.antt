@@ -1,4 +1,4 @@
-use Rattle.std.proofs.Common.{◌∷◌, map, refl, ap, ◌∙◌}
+use Rattle.std.proofs.Common.{◌∷◌, map, ap, ◌∙◌}
 use Rattle.code.specs.CheckedCode.{code_in}
 use Rattle.code.specs.Codes.{code_of}
 use Rattle.machine.specs.Histories.{advanced, started, steps_in}
