@@ -1,30 +1,19 @@
 -- What checked code says of one operation, by the form of what it does, and where control goes from it.
-use Rattle.std.proofs.Common.{◌≡◌, ℕ, suc, ◌+◌, ◌-◌, ◌<◌, ◌≤◌, true, List, map, length, get_or, Some, None, sym, refl, ap, ◌∙◌, subst, inl, inr, ⊎_elim, add-one, arith}
-use Rattle.std.proofs.lemmas.List.{get_or_past}
-use Rattle.std.proofs.lemmas.Bool.{cases_lt}
+use Rattle.std.proofs.Common.{◌≡◌, ℕ, suc, ◌+◌, ◌-◌, ◌<◌, ◌≤◌, length, get_or, Some, sym, refl, ap, ◌∙◌, inl, inr, add-one, arith}
 use Rattle.code.specs.declared.operations.Operation.{Operation}
 use Rattle.code.specs.declared.operations.Operation.TheVariants as op
-use Rattle.code.specs.Operations.{operation, number, taken, left, all_operations}
-use Rattle.code.specs.Check.{Verdict, passes, refused, passed, check, depth_after}
+use Rattle.code.specs.Operations.{operation, number, taken, left}
 use Rattle.code.specs.Codes.{Code, operation_at}
 use Rattle.code.specs.Descriptors.{unpacked}
-use Rattle.code.specs.WellFormed.{depth_at, depth_past, Lands, on_mark, on_later_here, on_later_halt, NamesCells, SoundAt, WellFormed}
-use Rattle.code.proofs.Passing.{passes_to_well_formed}
-use Rattle.code.proofs.Places.{operation_at_inside, operation_at_past}
+use Rattle.code.specs.WellFormed.{depth_at, Lands, on_mark, on_later_here, on_later_halt, NamesCells, SoundAt, WellFormed}
+use Rattle.code.proofs.Passing.{depth_at_suc}
+use Rattle.code.proofs.Targets.{stands_to_inside, stands_to_sound}
 use Rattle.machine.specs.declared.instruction.Instruction.{Instruction}
 use Rattle.machine.specs.declared.instruction.Instruction.TheVariants.{Halt, Pass, Calculate, Transfer, Go, Take, Post}
 use Rattle.machine.specs.declared.instruction.Branch.TheVariants.{Always, IfFalse, ByTable}
 use Rattle.machine.specs.Instructions.{instruction}
 use Rattle.machine.specs.Steps.{ends_step_at}
 use Rattle.machine.specs.Fits.{Fits, Follows, RowsWithin, calculation_takes, CalculationOperand, transfer_takes, transfer_leaves, TransferOperand}
-
--- The code that a checked value holds is well formed.
-passed_to_passes : (v : Verdict) → passed v ≡ true → v ≡ passes
-passed_to_passes passes e = refl
-passed_to_passes (refused k i) e = cc
-
-pub well_formed : (c : Code) → passed (check c) ≡ true → WellFormed c
-well_formed c ok = passes_to_well_formed c (passed_to_passes (check c) ok)
 
 -- The operation of an operation's number is that operation.
 pub operation_number : (o : Operation) → operation (number o) ≡ Some o
@@ -59,25 +48,6 @@ operation_number op.Here = refl
 operation_number op.Take = refl
 operation_number op.TakeW = refl
 operation_number op.Post = refl
-
--- A byte that is an operation's number is below 30.
-number_below : (b : ℕ) (o : Operation) → operation b ≡ Some o → b < 30
-unfolding operation
-number_below b o e = ⊎_elim (λ l. l) past (cases_lt b 30)
-  where
-    past : 30 ≤ b → b < 30
-    past l = let q = get_or_past (map Some all_operations) b None l in let z : ◌≡◌ {A = ℕ} 0 1 = cc in absurd (omega arith)
-
--- There is an operation at a place only within the code.
-pub operation_to_inside : (os : List ℕ) (i : ℕ) (o : Operation) → operation_at os i ≡ Some o → i < length os
-operation_to_inside os i o e = ⊎_elim (λ l. l) (λ l. past l) (cases_lt i (length os))
-  where
-    past : length os ≤ i → i < length os
-    past l = let q = operation_at_past os i l in let z : ◌≡◌ {A = ℕ} 0 1 = cc in absurd (omega arith)
-
-depth_at_suc : (os : List ℕ) (i : ℕ) (o : Operation) → operation_at os i ≡ Some o → depth_at os (suc i) ≡ depth_after o (depth_at os i)
-unfolding depth_at
-depth_at_suc os i o e = ap (λ p. depth_past p (depth_at os i)) e
 
 -- An operation that takes t figures and leaves l, and from which control may go on to the next.
 pub record Onward (c : Code) (i t l : ℕ) : Type 0 where
@@ -139,25 +109,8 @@ module _ (c : Code) (i : ℕ) where
   facts op.Post s = onward op.Post s s.leads
 
 module _ (c : Code) (w : WellFormed c) where
-  -- What is sound of the operation that is known to stand at a place.
-  pub sound_at : (i : ℕ) (o : Operation) → operation_at c.operations i ≡ Some o → SoundAt c i o
-  sound_at i o e =
-      let l = operation_to_inside c.operations i o e in
-      let long = w.operations_long in
-      let s = w.sound i (omega arith) in
-      let there = s.1.stands in
-      let same : s.0 ≡ o = cc in
-      subst (λ (p : Operation). SoundAt c i p) same s.1
-
   pub facts_at : (i : ℕ) (o : Operation) (f : Instruction) (x : ℕ) → operation_at c.operations i ≡ Some o → f ≡ instruction o → x ≡ get_or c.operands i 0 → Facts c i f x
-  facts_at i o f x e p q = rw (p, q) (facts c i o (sound_at i o e))
-
-  -- Every place within the code has an operation, whose byte is below 30.
-  pub byte_below : (i : ℕ) → i < length c.operations → get_or c.operations i 0 < 30
-  byte_below i l =
-      let long = w.operations_long in
-      let s = w.sound i (omega arith) in
-      number_below (get_or c.operations i 0) s.0 (sym (operation_at_inside c.operations i l) ∙ s.1.stands)
+  facts_at i o f x e p q = rw (p, q) (facts c i o (stands_to_sound c w i o e))
 
   pub operands_as_long : length c.operations ≡ length c.operands
   operands_as_long = w.operations_long ∙ sym w.operands_long
@@ -176,24 +129,24 @@ module _ (c : Code) (w : WellFormed c) where
     }
 
     at_empty : (x : ℕ) (o : Operation) → operation_at c.operations x ≡ Some o → depth_at c.operations x ≡ 0 → (e : ℕ) → e ≡ 0 → Fits c x e cells stack
-    at_empty x o there z e q = record { inside = operation_to_inside c.operations x o there; deep = q ∙ sym z; wide = fits.wide; tall = fits.tall }
+    at_empty x o there z e q = record { inside = stands_to_inside c.operations x o there; deep = q ∙ sym z; wide = fits.wide; tall = fits.tall }
 
     -- To where a jump lands.
     pub follows_jump : (x : ℕ) → Lands c.operations i x → (e : ℕ) → e ≡ 0 → Follows c i x e cells stack
     follows_jump x (on_mark there) e q =
-        record { fits = at_empty x op.Mark there ((sound_at x op.Mark there).none_before refl) e q; on = inr (ap ends_step_at there) }
+        record { fits = at_empty x op.Mark there ((stands_to_sound c w x op.Mark there).none_before refl) e q; on = inr (ap ends_step_at there) }
     follows_jump x (on_later_here l there) e q =
-        record { fits = at_empty x op.Here there ((sound_at x op.Here there).none_before refl) e q; on = inl l }
+        record { fits = at_empty x op.Here there ((stands_to_sound c w x op.Here there).none_before refl) e q; on = inl l }
     follows_jump x (on_later_halt l there) e q =
-        record { fits = at_empty x op.Halt there ((sound_at x op.Halt there).none_before refl) e q; on = inl l }
+        record { fits = at_empty x op.Halt there ((stands_to_sound c w x op.Halt there).none_before refl) e q; on = inl l }
 
     -- To a row of a table.
     pub follows_row : (x n k : ℕ) → k ≡ get_or c.operands x 0 → i < x → operation_at c.operations x ≡ Some op.Rows → 1 ≤ n → n ≤ k → (e : ℕ) → e ≡ 0 → Follows c i (x + n) e cells stack
     follows_row x n k r l there low high e q =
-        let has = (sound_at x op.Rows there).leads.0 in
+        let has = (stands_to_sound c w x op.Rows there).leads.0 in
         let same : suc x + (n - 1) ≡ x + n = omega arith in
         let jump : operation_at c.operations (x + n) ≡ Some op.Jump = ap (operation_at c.operations) (sym same) ∙ has.row (n - 1) (rw (← r) (omega arith)) in
-        let s = sound_at (x + n) op.Jump jump in
+        let s = stands_to_sound c w (x + n) op.Jump jump in
         let after = depth_at_suc c.operations (x + n) op.Jump jump in
         let none = s.none_after refl in
         let empty : depth_at c.operations (x + n) ≡ 0 = omega arith in
@@ -201,16 +154,16 @@ module _ (c : Code) (w : WellFormed c) where
 
   pub rows_within : (x k : ℕ) → k ≡ get_or c.operands x 0 → operation_at c.operations x ≡ Some op.Rows → RowsWithin (length c.operands) k x
   rows_within x k r there =
-      let has = (sound_at x op.Rows there).leads.0 in
+      let has = (stands_to_sound c w x op.Rows there).leads.0 in
       let long = operands_as_long in
-      let inside = operation_to_inside c.operations x op.Rows there in
+      let inside = stands_to_inside c.operations x op.Rows there in
       let few = w.few_operations in
       let count = w.operations_long in
       record {
         there = omega arith;
         within = λ j low high.
             let same : suc x + (j - 1) ≡ x + j = omega arith in
-            let l = operation_to_inside c.operations (suc x + (j - 1)) op.Jump (has.row (j - 1) (rw (← r) (omega arith))) in
+            let l = stands_to_inside c.operations (suc x + (j - 1)) op.Jump (has.row (j - 1) (rw (← r) (omega arith))) in
             omega arith;
       }
 

@@ -19,7 +19,8 @@ use Rattle.machine.specs.Fits.{Fits, Follows, BranchOperand, branch_takes}
 use Rattle.machine.specs.Instructions.{instruction}
 use Rattle.machine.specs.Machine.{Attempt, gives, fails, lacks, Lack, figure, ◌>>=◌, one, calculated, transferred, gone, row, rows_at, taken_into, posted_in, Memory, State, goes, faults, with_cells, with_taken, with_posted, effect, settled}
 use Rattle.machine.specs.Steps.{perform, performed}
-use Rattle.machine.proofs.Facts.{Facts, follows_on, follows_jump, follows_row, operation_to_inside, operands_as_long, rows_within}
+use Rattle.code.proofs.Targets.{stands_to_inside}
+use Rattle.machine.proofs.Facts.{Facts, follows_on, follows_jump, follows_row, operands_as_long, rows_within}
 
 module _ {V : Type 0} (kind : Kind V) (c : Code) (s : State V) where
   pub performed_as : (o : Operation) (f : Instruction) (x : ℕ) → operation_at c.operations s.place ≡ Some o → f ≡ instruction o → x ≡ get_or c.operands s.place 0 → performed kind c s ≡ settled kind c s (effect kind c s f x)
@@ -138,7 +139,7 @@ module _ {V : Type 0} (kind : Kind V) (c : Code) (w : WellFormed c) {i d cells s
       by_test false at = same_place (follows_on c w fits h.0 e (omega arith)) at
   follows_branch ByTable x h [] ws p e g q = nowhere figure (p, ws) g
   follows_branch ByTable x h (v ∷ vs) ws p e g q =
-      let inside = operation_to_inside c.operations x op.Rows h.2 in
+      let inside = stands_to_inside c.operations x op.Rows h.2 in
       let long = operands_as_long c w in
       let rows = slice_get-get_or c.operands x 0 (omega arith) in
       let there = sym (ap (λ o. (rows_at o >>= λ k. gives (row x k (i + 1) (kind.nearest v))) >>= λ q. gives (q, vs)) rows) ∙ g in

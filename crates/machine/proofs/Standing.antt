@@ -11,7 +11,7 @@ use Rattle.code.specs.WellFormed.{WellFormed}
 use Rattle.code.proofs.Places.{role_to_operation, sole}
 use Rattle.machine.specs.Fits.{Ends, Fits, stands_at}
 use Rattle.machine.specs.Steps.{ends_step_at, halts, role_ends}
-use Rattle.machine.proofs.Facts.{sound_at}
+use Rattle.code.proofs.Targets.{stands_to_sound}
 
 clash : {A : Type 0} → false ≡ true → A
 clash e = let z : ◌≡◌ {A = ℕ} 0 1 = cc in absurd (omega arith)
@@ -47,7 +47,7 @@ module _ (c : Code) (i : ℕ) where
 
   pub stands_to_fits : WellFormed c → (cells stack : ℕ) → stands_at c i ≡ true → cells ≡ c.sizes.cells → c.sizes.depth ≤ stack → Fits c i 0 cells stack
   stands_to_fits w cells stack s wide tall =
-      ⊎_elim (λ e. fits ((sound_at c w i Mark e).none_before refl)) (λ e. fits ((sound_at c w i Halt e).none_before refl)) (ends_to_mark_or_halt (operation_at c.operations i) (stands_to_ends s))
+      ⊎_elim (λ e. fits ((stands_to_sound c w i Mark e).none_before refl)) (λ e. fits ((stands_to_sound c w i Halt e).none_before refl)) (ends_to_mark_or_halt (operation_at c.operations i) (stands_to_ends s))
     where
       fits : Rattle.code.specs.WellFormed.depth_at c.operations i ≡ 0 → Fits c i 0 cells stack
       fits z = record { inside = stands_to_inside s; deep = sym z; wide = wide; tall = tall }

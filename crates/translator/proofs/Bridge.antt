@@ -13,7 +13,8 @@ use Rattle.machine.specs.declared.instruction.Branch.TheVariants.{Always, IfFals
 use Rattle.machine.specs.Instructions.{instruction}
 use Rattle.machine.specs.Machine.{Attempt, gives, fails, lacks, ◌>>=◌, row, rows_at, calculated, transferred, taken_into, posted_in, Memory, State, ResultOf, goes, faults, misses, room, with_cells, with_taken, with_posted, effect, settled}
 use Rattle.machine.specs.Steps.{ends_step, ends_step_at, performed, perform, run_to_end, onward as goes_on}
-use Rattle.machine.proofs.Facts.{Facts, facts_at, operation_number, operation_to_inside}
+use Rattle.code.proofs.Targets.{stands_to_inside}
+use Rattle.machine.proofs.Facts.{Facts, facts_at, operation_number}
 use Rattle.machine.proofs.Performing.{performed_as}
 use Rattle.machine.proofs.Soundness.{Completes, step_completes}
 use Rattle.machine.proofs.Standing.{inside_ends_to_stands}
@@ -249,7 +250,7 @@ pub steps_are_runs : {V : Type 0} (kind : Kind V) → StepsAreRuns kind
 steps_are_runs kind sizes c w a p r M e wide =
     let code = laid_out sizes c in
     let mark = operation_there a c (entry Mark p) r e in
-    let stands = inside_ends_to_stands code a (operation_to_inside (operations_of c) a Mark mark) (ap ends_step_at mark) in
+    let stands = inside_ends_to_stands code a (stands_to_inside (operations_of c) a Mark mark) (ap ends_step_at mark) in
     let z : a + 1 ≡ suc a = omega arith in
     run_is_runs kind sizes c w (length (operations_of c)) (a + 1) [] M (completes_whole kind sizes c w _ (step_completes kind code w a M stands mark wide))
     ∙ ap (λ q. runs kind c q 0 (drop q c) [] M) z

@@ -1,13 +1,13 @@
 use Rattle.std.proofs.Common.{length, sym, ◌∙◌, arith}
 use Rattle.std.proofs.lemmas.Bool.{eqb-true, ltb-true}
 use Rattle.code.specs.CheckedCode.{code_in}
-use Rattle.machine.proofs.Facts.{well_formed}
+use Rattle.code.proofs.Targets.{passed_to_well_formed}
 use Rattle.machine.proofs.prepare.ask_cell.Goals as goal
 
 pub load-requires : goal.load-requires
 load-requires g c =
     let code = code_in c.args.code.now in
-    let few = (well_formed code c.args.code.now.passes).few_named in
+    let few = (passed_to_well_formed code c.args.code.now.passes).few_named in
     let all = eqb-true (length c.args.cells.now) code.sizes.cells (sym c.has_all_cells.ensures.figures ∙ c.if-not-has_all_cells.false) in
     let named = ltb-true c.args.cell code.sizes.named (sym c.is_named.ensures ∙ c.if-not-is_named.false) in
     omega arith

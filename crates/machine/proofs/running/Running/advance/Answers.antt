@@ -6,7 +6,7 @@ use Rattle.code.specs.CheckedCode.{code_in}
 use Rattle.machine.specs.Runs.{ended}
 use Rattle.machine.specs.RunViews.{progress_of, run_of}
 use Rattle.machine.proofs.Advancing.{advances, ended_runs, goes_ahead, refused_41, refused_42, refused_44, refused_45, refused_46, refuses, run_more, run_none}
-use Rattle.machine.proofs.Facts.{well_formed}
+use Rattle.code.proofs.Targets.{passed_to_well_formed}
 use Rattle.machine.proofs.Laws.{histories_sound}
 use Rattle.machine.proofs.running.Running.advance.Goals as goal
 
@@ -19,7 +19,7 @@ returns-then-not-has_all_cells g c =
     let n = c.args.steps in
     let room = length c.args.stack.now in
     let before = run_of means r c.args.cells.now c.args.book.now (g.R.Roll.holds c.args.roll.now) in
-    let sound = histories_sound kind code (well_formed code r.code.passes) in
+    let sound = histories_sound kind code (passed_to_well_formed code r.code.passes) in
     let other : eqb (length (map means c.args.cells.now)) code.sizes.cells ≡ false = sym c.has_all_cells.ensures.values ∙ c.if-not-has_all_cells.true in
     record { advanced = refuses kind n room before 41 (refused_41 kind n room before other); code = refl; sound = sound }
 
@@ -32,7 +32,7 @@ returns-then-stack-sizes g c =
     let n = c.args.steps in
     let room = length c.args.stack.now in
     let before = run_of means r c.args.cells.now c.args.book.now (g.R.Roll.holds c.args.roll.now) in
-    let sound = histories_sound kind code (well_formed code r.code.passes) in
+    let sound = histories_sound kind code (passed_to_well_formed code r.code.passes) in
     let wide : eqb (length (map means c.args.cells.now)) code.sizes.cells ≡ true = sym c.has_all_cells.ensures.values ∙ c.if-not-has_all_cells.false in
     let stated = ap (λ s. s.depth) c.sizes.ensures in
     let short = lt-leb code.sizes.depth room (omega arith) in
@@ -47,7 +47,7 @@ returns-then-has_ended g c =
     let n = c.args.steps in
     let room = length c.args.stack.now in
     let before = run_of means r c.args.cells.now c.args.book.now (g.R.Roll.holds c.args.roll.now) in
-    let sound = histories_sound kind code (well_formed code r.code.passes) in
+    let sound = histories_sound kind code (passed_to_well_formed code r.code.passes) in
     let wide : eqb (length (map means c.args.cells.now)) code.sizes.cells ≡ true = sym c.has_all_cells.ensures.values ∙ c.if-not-has_all_cells.false in
     let stated = ap (λ s. s.depth) c.sizes.ensures in
     let tall = le-leb code.sizes.depth room (omega arith) in
@@ -63,7 +63,7 @@ returns-then-steps-self g c =
     let n = c.args.steps in
     let room = length c.args.stack.now in
     let before = run_of means r c.args.cells.now c.args.book.now (g.R.Roll.holds c.args.roll.now) in
-    let sound = histories_sound kind code (well_formed code r.code.passes) in
+    let sound = histories_sound kind code (passed_to_well_formed code r.code.passes) in
     let wide : eqb (length (map means c.args.cells.now)) code.sizes.cells ≡ true = sym c.has_all_cells.ensures.values ∙ c.if-not-has_all_cells.false in
     let stated = ap (λ s. s.depth) c.sizes.ensures in
     let tall = le-leb code.sizes.depth room (omega arith) in
@@ -81,7 +81,7 @@ returns-then-book-self g c =
     let n = c.args.steps in
     let room = length c.args.stack.now in
     let before = run_of means r c.args.cells.now c.args.book.now (g.R.Roll.holds c.args.roll.now) in
-    let sound = histories_sound kind code (well_formed code r.code.passes) in
+    let sound = histories_sound kind code (passed_to_well_formed code r.code.passes) in
     let wide : eqb (length (map means c.args.cells.now)) code.sizes.cells ≡ true = sym c.has_all_cells.ensures.values ∙ c.if-not-has_all_cells.false in
     let stated = ap (λ s. s.depth) c.sizes.ensures in
     let tall = le-leb code.sizes.depth room (omega arith) in
@@ -100,7 +100,7 @@ loop-made-preserved g c =
     let n = c.args.steps in
     let room = length c.args.stack.now in
     let before = run_of means r c.args.cells.now c.args.book.now (g.R.Roll.holds c.args.roll.now) in
-    let sound = histories_sound kind code (well_formed code r.code.passes) in
+    let sound = histories_sound kind code (passed_to_well_formed code r.code.passes) in
     let l = c.loop-made in
     let here = run_of means l.self l.cells l.book (g.R.Roll.holds l.roll) in
     let e = c.make_step.ensures in
@@ -117,7 +117,7 @@ returns-then-has_ended-2 g c =
     let n = c.args.steps in
     let room = length c.args.stack.now in
     let before = run_of means r c.args.cells.now c.args.book.now (g.R.Roll.holds c.args.roll.now) in
-    let sound = histories_sound kind code (well_formed code r.code.passes) in
+    let sound = histories_sound kind code (passed_to_well_formed code r.code.passes) in
     let wide : eqb (length (map means c.args.cells.now)) code.sizes.cells ≡ true = sym c.has_all_cells.ensures.values ∙ c.if-not-has_all_cells.false in
     let stated = ap (λ s. s.depth) c.sizes.ensures in
     let tall = le-leb code.sizes.depth room (omega arith) in
@@ -139,7 +139,7 @@ returns g c =
     let n = c.args.steps in
     let room = length c.args.stack.now in
     let before = run_of means r c.args.cells.now c.args.book.now (g.R.Roll.holds c.args.roll.now) in
-    let sound = histories_sound kind code (well_formed code r.code.passes) in
+    let sound = histories_sound kind code (passed_to_well_formed code r.code.passes) in
     let wide : eqb (length (map means c.args.cells.now)) code.sizes.cells ≡ true = sym c.has_all_cells.ensures.values ∙ c.if-not-has_all_cells.false in
     let stated = ap (λ s. s.depth) c.sizes.ensures in
     let tall = le-leb code.sizes.depth room (omega arith) in

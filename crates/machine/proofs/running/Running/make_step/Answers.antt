@@ -7,7 +7,7 @@ use Rattle.machine.specs.Runs.{at_halt}
 use Rattle.machine.specs.RunViews.{progress_of, run_of}
 use Rattle.machine.specs.Views.{memory}
 use Rattle.machine.proofs.Advancing.{none_mapped, same_run, stepped_to}
-use Rattle.machine.proofs.Facts.{well_formed}
+use Rattle.code.proofs.Targets.{passed_to_well_formed}
 use Rattle.machine.proofs.Standing.{stands_to_fits, stands_to_mark}
 use Rattle.machine.proofs.running.Running.make_step.Goals as goal
 
@@ -15,7 +15,7 @@ pub step-requires : goal.step-requires
 step-requires g c =
     let r = c.args.self.now in
     let code = code_in r.code in
-    let w = well_formed code r.code.passes in
+    let w = passed_to_well_formed code r.code.passes in
     let parts = or_parts (is_some (option_map fault_of r.fault)) (at_halt (progress_of r)) c.requires.going in
     record {
       fits = stands_to_fits code r.place w _ _ r.stands c.requires.wide c.requires.tall;

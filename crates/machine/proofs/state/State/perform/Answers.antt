@@ -10,7 +10,8 @@ use Rattle.machine.specs.Fits.{BranchOperand, TransferOperand}
 use Rattle.machine.specs.Machine.{gives, gone, faults}
 use Rattle.machine.specs.Views.{laid, memory, state, valued}
 use Rattle.machine.proofs.Arrays.{laid_length}
-use Rattle.machine.proofs.Facts.{well_formed, facts_at, follows_on, room, sound_at}
+use Rattle.code.proofs.Targets.{passed_to_well_formed, stands_to_sound}
+use Rattle.machine.proofs.Facts.{facts_at, follows_on, room}
 use Rattle.machine.proofs.Performing.{branch_low, branch_names, calculate_fails, calculate_goes, follows_branch, go_goes, pass_goes, post_fails, post_goes, take_fails, take_goes, transfer_fails, transfer_goes}
 use Rattle.machine.proofs.Stepping.{follows_as}
 use Rattle.machine.proofs.state.State.perform.Goals as goal
@@ -18,7 +19,7 @@ use Rattle.machine.proofs.state.State.perform.Goals as goal
 pub returns-in-Pass-clause-done : goal.returns-in-Pass-clause-done
 returns-in-Pass-clause-done g c =
     let code = code_in c.args.code.now in
-    let w = well_formed code c.args.code.now.passes in
+    let w = passed_to_well_formed code c.args.code.now.passes in
     let r = c.args.self.now in
     let h = facts_at code w r.place c.args.operation Pass c.operand_at-operand.result c.requires.at c.in-Pass.ensures c.operand_at-operand.ensures in
     let kind = g.R.Figure.Figures.kind in
@@ -31,7 +32,7 @@ returns-in-Pass-clause-done g c =
 pub returns-in-Pass-clause-next : goal.returns-in-Pass-clause-next
 returns-in-Pass-clause-next g c =
     let code = code_in c.args.code.now in
-    let w = well_formed code c.args.code.now.passes in
+    let w = passed_to_well_formed code c.args.code.now.passes in
     let r = c.args.self.now in
     let h = facts_at code w r.place c.args.operation Pass c.operand_at-operand.result c.requires.at c.in-Pass.ensures c.operand_at-operand.ensures in
     follows_on code w c.requires.fits h c.args.stack.now.depth (omega arith)
@@ -39,7 +40,7 @@ returns-in-Pass-clause-next g c =
 pub calculate-requires : goal.calculate-requires
 calculate-requires g c =
     let code = code_in c.args.code.now in
-    let w = well_formed code c.args.code.now.passes in
+    let w = passed_to_well_formed code c.args.code.now.passes in
     let r = c.args.self.now in
     let h = facts_at code w r.place c.args.operation (Calculate c.in-Calculate.calculation) c.operand_at-operand.result c.requires.at c.in-Calculate.ensures c.operand_at-operand.ensures in
     let enough = room code w c.requires.fits h.0 in
@@ -58,7 +59,7 @@ returns-in_err-calculate-in-Calculate-clause-done g c =
 pub returns-in_ok-calculate-in-Calculate-clause-done : goal.returns-in_ok-calculate-in-Calculate-clause-done
 returns-in_ok-calculate-in-Calculate-clause-done g c =
     let code = code_in c.args.code.now in
-    let w = well_formed code c.args.code.now.passes in
+    let w = passed_to_well_formed code c.args.code.now.passes in
     let r = c.args.self.now in
     let h = facts_at code w r.place c.args.operation (Calculate c.in-Calculate.calculation) c.operand_at-operand.result c.requires.at c.in-Calculate.ensures c.operand_at-operand.ensures in
     let kind = g.R.Figure.Figures.kind in
@@ -74,7 +75,7 @@ returns-in_ok-calculate-in-Calculate-clause-done g c =
 pub returns-in_ok-calculate-in-Calculate-clause-next : goal.returns-in_ok-calculate-in-Calculate-clause-next
 returns-in_ok-calculate-in-Calculate-clause-next g c =
     let code = code_in c.args.code.now in
-    let w = well_formed code c.args.code.now.passes in
+    let w = passed_to_well_formed code c.args.code.now.passes in
     let r = c.args.self.now in
     let h = facts_at code w r.place c.args.operation (Calculate c.in-Calculate.calculation) c.operand_at-operand.result c.requires.at c.in-Calculate.ensures c.operand_at-operand.ensures in
     let e = c.in_ok-calculate-in-Calculate.ensures in
@@ -83,7 +84,7 @@ returns-in_ok-calculate-in-Calculate-clause-next g c =
 pub transfer-requires : goal.transfer-requires
 transfer-requires g c =
     let code = code_in c.args.code.now in
-    let w = well_formed code c.args.code.now.passes in
+    let w = passed_to_well_formed code c.args.code.now.passes in
     let r = c.args.self.now in
     let h = facts_at code w r.place c.args.operation (Transfer c.in-Transfer.transfer) c.operand_at-operand.result c.requires.at c.in-Transfer.ensures c.operand_at-operand.ensures in
     let enough = room code w c.requires.fits h.0 in
@@ -109,7 +110,7 @@ returns-in_err-transfer-in-Transfer-clause-done g c =
 pub returns-in_ok-transfer-in-Transfer-clause-done : goal.returns-in_ok-transfer-in-Transfer-clause-done
 returns-in_ok-transfer-in-Transfer-clause-done g c =
     let code = code_in c.args.code.now in
-    let w = well_formed code c.args.code.now.passes in
+    let w = passed_to_well_formed code c.args.code.now.passes in
     let r = c.args.self.now in
     let h = facts_at code w r.place c.args.operation (Transfer c.in-Transfer.transfer) c.operand_at-operand.result c.requires.at c.in-Transfer.ensures c.operand_at-operand.ensures in
     let kind = g.R.Figure.Figures.kind in
@@ -125,7 +126,7 @@ returns-in_ok-transfer-in-Transfer-clause-done g c =
 pub returns-in_ok-transfer-in-Transfer-clause-next : goal.returns-in_ok-transfer-in-Transfer-clause-next
 returns-in_ok-transfer-in-Transfer-clause-next g c =
     let code = code_in c.args.code.now in
-    let w = well_formed code c.args.code.now.passes in
+    let w = passed_to_well_formed code c.args.code.now.passes in
     let r = c.args.self.now in
     let h = facts_at code w r.place c.args.operation (Transfer c.in-Transfer.transfer) c.operand_at-operand.result c.requires.at c.in-Transfer.ensures c.operand_at-operand.ensures in
     let e = c.in_ok-transfer-in-Transfer.ensures in
@@ -134,7 +135,7 @@ returns-in_ok-transfer-in-Transfer-clause-next g c =
 pub go-self-requires : goal.go-self-requires
 go-self-requires g c =
     let code = code_in c.args.code.now in
-    let w = well_formed code c.args.code.now.passes in
+    let w = passed_to_well_formed code c.args.code.now.passes in
     let r = c.args.self.now in
     let h = facts_at code w r.place c.args.operation (Go c.in-Go.branch) c.operand_at-operand.result c.requires.at c.in-Go.ensures c.operand_at-operand.ensures in
     let fits = c.requires.fits in
@@ -152,10 +153,10 @@ go-self-requires g c =
 pub returns-in-Go-clause-done : goal.returns-in-Go-clause-done
 returns-in-Go-clause-done g c =
     let code = code_in c.args.code.now in
-    let w = well_formed code c.args.code.now.passes in
+    let w = passed_to_well_formed code c.args.code.now.passes in
     let r = c.args.self.now in
     let h = facts_at code w r.place c.args.operation (Go c.in-Go.branch) c.operand_at-operand.result c.requires.at c.in-Go.ensures c.operand_at-operand.ensures in
-    let found = (sound_at code w r.place c.args.operation c.requires.at).found in
+    let found = (stands_to_sound code w r.place c.args.operation c.requires.at).found in
     let fits = c.requires.fits in
     let kind = g.R.Figure.Figures.kind in
     let means = g.R.Figure.Figures.means in
@@ -172,7 +173,7 @@ returns-in-Go-clause-done g c =
 pub returns-in-Go-clause-next : goal.returns-in-Go-clause-next
 returns-in-Go-clause-next g c =
     let code = code_in c.args.code.now in
-    let w = well_formed code c.args.code.now.passes in
+    let w = passed_to_well_formed code c.args.code.now.passes in
     let r = c.args.self.now in
     let h = facts_at code w r.place c.args.operation (Go c.in-Go.branch) c.operand_at-operand.result c.requires.at c.in-Go.ensures c.operand_at-operand.ensures in
     let kind = g.R.Figure.Figures.kind in
@@ -186,7 +187,7 @@ returns-in-Go-clause-next g c =
 pub pop-subscript-requires : goal.pop-subscript-requires
 pop-subscript-requires g c =
     let code = code_in c.args.code.now in
-    let w = well_formed code c.args.code.now.passes in
+    let w = passed_to_well_formed code c.args.code.now.passes in
     let r = c.args.self.now in
     let h = facts_at code w r.place c.args.operation (Take c.in-Take.is_rounded) c.operand_at-operand.result c.requires.at c.in-Take.ensures c.operand_at-operand.ensures in
     let enough = room code w c.requires.fits h.0 in
@@ -196,7 +197,7 @@ pop-subscript-requires g c =
 pub take_into-requires : goal.take_into-requires
 take_into-requires g c =
     let code = code_in c.args.code.now in
-    let w = well_formed code c.args.code.now.passes in
+    let w = passed_to_well_formed code c.args.code.now.passes in
     let r = c.args.self.now in
     let h = facts_at code w r.place c.args.operation (Take c.in-Take.is_rounded) c.operand_at-operand.result c.requires.at c.in-Take.ensures c.operand_at-operand.ensures in
     subst (λ (m : ℕ). NamesCells m (unpacked c.operand_at-operand.result)) (sym c.requires.fits.wide) h.1
@@ -217,7 +218,7 @@ returns-in_err-take_into-in-Take-clause-done g c =
 pub returns-in_ok-take_into-in-Take-clause-done : goal.returns-in_ok-take_into-in-Take-clause-done
 returns-in_ok-take_into-in-Take-clause-done g c =
     let code = code_in c.args.code.now in
-    let w = well_formed code c.args.code.now.passes in
+    let w = passed_to_well_formed code c.args.code.now.passes in
     let r = c.args.self.now in
     let h = facts_at code w r.place c.args.operation (Take c.in-Take.is_rounded) c.operand_at-operand.result c.requires.at c.in-Take.ensures c.operand_at-operand.ensures in
     let kind = g.R.Figure.Figures.kind in
@@ -233,7 +234,7 @@ returns-in_ok-take_into-in-Take-clause-done g c =
 pub returns-in_ok-take_into-in-Take-clause-next : goal.returns-in_ok-take_into-in-Take-clause-next
 returns-in_ok-take_into-in-Take-clause-next g c =
     let code = code_in c.args.code.now in
-    let w = well_formed code c.args.code.now.passes in
+    let w = passed_to_well_formed code c.args.code.now.passes in
     let r = c.args.self.now in
     let h = facts_at code w r.place c.args.operation (Take c.in-Take.is_rounded) c.operand_at-operand.result c.requires.at c.in-Take.ensures c.operand_at-operand.ensures in
     let e = c.pop-subscript.ensures in
@@ -243,7 +244,7 @@ returns-in_ok-take_into-in-Take-clause-next g c =
 pub pop-figure-requires : goal.pop-figure-requires
 pop-figure-requires g c =
     let code = code_in c.args.code.now in
-    let w = well_formed code c.args.code.now.passes in
+    let w = passed_to_well_formed code c.args.code.now.passes in
     let r = c.args.self.now in
     let h = facts_at code w r.place c.args.operation Post c.operand_at-operand.result c.requires.at c.in-Post.ensures c.operand_at-operand.ensures in
     let enough = room code w c.requires.fits h in
@@ -266,7 +267,7 @@ returns-in_err-post-in-Post-clause-done g c =
 pub returns-in_ok-post-in-Post-clause-done : goal.returns-in_ok-post-in-Post-clause-done
 returns-in_ok-post-in-Post-clause-done g c =
     let code = code_in c.args.code.now in
-    let w = well_formed code c.args.code.now.passes in
+    let w = passed_to_well_formed code c.args.code.now.passes in
     let r = c.args.self.now in
     let h = facts_at code w r.place c.args.operation Post c.operand_at-operand.result c.requires.at c.in-Post.ensures c.operand_at-operand.ensures in
     let kind = g.R.Figure.Figures.kind in
@@ -282,7 +283,7 @@ returns-in_ok-post-in-Post-clause-done g c =
 pub returns-in_ok-post-in-Post-clause-next : goal.returns-in_ok-post-in-Post-clause-next
 returns-in_ok-post-in-Post-clause-next g c =
     let code = code_in c.args.code.now in
-    let w = well_formed code c.args.code.now.passes in
+    let w = passed_to_well_formed code c.args.code.now.passes in
     let r = c.args.self.now in
     let h = facts_at code w r.place c.args.operation Post c.operand_at-operand.result c.requires.at c.in-Post.ensures c.operand_at-operand.ensures in
     let e = c.pop-figure.ensures in
