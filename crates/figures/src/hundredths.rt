@@ -114,6 +114,7 @@ impl Figures for Hundredths {
         self.value() < other.value()
     }
 
+    // no derive: two numbers stored beyond the same end are one figure
     fn same(self, other: Hundredths) -> bool {
         self.value() == other.value()
     }

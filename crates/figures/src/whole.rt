@@ -104,6 +104,7 @@ impl Figures for Whole {
         self.value() < other.value()
     }
 
+    // no derive: two numbers stored beyond the same end are one figure
     fn same(self, other: Whole) -> bool {
         self.value() == other.value()
     }
