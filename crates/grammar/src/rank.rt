@@ -30,7 +30,8 @@ impl Prefix {
         }
     }
 
-    // The rank of the operand behind it.
+    // The rank of the operand behind it: a table beside `rank`, which says how the operator itself binds; they differ at a sign,
+    // whose operand is a term.
     pub fn operand_rank(self) -> usize
         ensures { result ≡ operand_rank self }
     {

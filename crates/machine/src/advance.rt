@@ -103,6 +103,7 @@ impl Running<'_> {
         if book.len() < self.posted {
             return Err(Refusal::ShortBook);
         }
+        // the run counts its steps itself, since one that faults is none
         let before = self.count;
         for made in 0..steps {
             if self.has_ended() {
