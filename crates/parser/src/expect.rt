@@ -37,6 +37,7 @@ impl Parser<'_> {
     }
 
     // Takes the next word, which opens a level, and says how many levels are left behind it.
+    // The levels left are an argument: as a field of the parser, each way out of a part would have to put them back.
     pub(crate) fn open(&mut self, levels: usize) -> Result<usize, Refusal>
         requires left { self.old.at < self.old.count }
         ensures moves { Moves self.old self.new }
