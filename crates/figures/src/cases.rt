@@ -16,10 +16,7 @@ mod tests {
     use crate::word::NoFigure;
 
     fn stored(r: Result<Whole, Fault>) -> Result<i32, u8> {
-        match r {
-            Ok(figure) => Ok(figure.units),
-            Err(fault) => Err(fault.number()),
-        }
+        r.map(|figure| figure.units).map_err(|fault| fault.number())
     }
 
     // a, b, then their sum, difference, product and quotient

@@ -88,6 +88,7 @@ fn read_mark(bytes: &[u8]) -> Result<(Token, usize), WordRefusal>
     if let Some(token) = longer_mark(bytes) {
         return Ok((token, 2));
     }
+    // no `ok_or` with `?`: the check does not see through it here which refusal comes
     match one_byte_mark(bytes[0]) {
         Some(token) => Ok((token, 1)),
         None => Err(WordRefusal::NoWord),
@@ -120,6 +121,7 @@ pub fn next_word(text: &[u8], at: usize) -> Result<Option<(Word, usize)>, Refusa
     if bytes.is_empty() {
         return Ok(None);
     }
+    // no `map_err` with `?`, for the same reason
     match read_word(bytes) {
         Ok((token, taken)) => Ok(Some((Word { token, place }, place + taken))),
         Err(reason) => Err(Refusal { reason, place }),

@@ -49,10 +49,8 @@ const CASES: [Case; 5] = [
 fn kinds_of_words(rt: HostRuntime) -> Result<(), Fail> {
     for case in CASES.iter() {
         let mut table = [EMPTY; 512];
-        match cut_words(case.text, &mut table) {
-            Ok(count) => assert_eq!(rt; count, case.kinds.len()),
-            Err(_) => return Err(Fail::new("refused")),
-        }
+        let count = cut_words(case.text, &mut table).map_err(|_| Fail::new("refused"))?;
+        assert_eq!(rt; count, case.kinds.len());
         for (record, kind) in table.iter().zip(case.kinds.iter()) {
             assert_eq!(rt; letter(record.word.token), *kind);
         }
@@ -64,10 +62,8 @@ fn kinds_of_words(rt: HostRuntime) -> Result<(), Fail> {
 #[test]
 fn rest_of_the_table(rt: HostRuntime) -> Result<(), Fail> {
     let mut table = [EMPTY; 4];
-    match cut_words(b"a b", &mut table) {
-        Ok(count) => assert_eq!(rt; count, 2),
-        Err(_) => return Err(Fail::new("refused")),
-    }
+    let count = cut_words(b"a b", &mut table).map_err(|_| Fail::new("refused"))?;
+    assert_eq!(rt; count, 2);
     assert_eq!(rt; table[1].node, 0);
     assert_eq!(rt; table[2].node, 7);
     assert_eq!(rt; table[3].node, 7);
