@@ -54,10 +54,9 @@ pub(crate) fn place_cells(records: &[Record], names: &mut [NameRecord]) -> CellC
 {
     let mut c = 0;
     let mut offence = None;
-    for k in 0..names.len() {
-        let line = names[k];
+    for line in names.iter_mut() {
         let n = cells(line.kind);
-        names[k] = NameRecord { first: c, ..line };
+        line.first = c;
         offence = earlier(offence, passing(c, n, place_of(records, line.word)));
         c += n;
     }

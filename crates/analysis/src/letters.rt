@@ -23,9 +23,8 @@ pub fn letters<'a>(text: &'a [u8], w: Word) -> &'a [u8]
 pub fn letters_of<'a>(text: &'a [u8], records: &[Record], w: usize) -> &'a [u8]
     ensures { result.now ≡ word_letters text.now records.now w }
 {
-    if w < records.len() {
-        letters(text, records[w].word)
-    } else {
-        &text[0..0]
+    match records.get(w) {
+        Some(record) => letters(text, record.word),
+        None => &text[0..0],
     }
 }
