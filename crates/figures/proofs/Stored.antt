@@ -2,15 +2,11 @@
 use Rattle.std.proofs.Common.{◌≡◌, ℤ, pos, ◌+ℤ◌, ◌-ℤ◌, ◌*ℤ◌, ◌≤ℤ◌, ap, ap₂, ◌∙◌, arith, w64, SFits, to_z, of_z, rules, lit<}
 use lib.Signed.{quot_z}
 use Rattle.std.proofs.lemmas.Int.{fits_signed_mul, ints, to_z-of_z}
-use Rattle.figures.specs.Range.{high, low, quotient}
+use Rattle.figures.specs.Range.{Within, high, low, quotient}
 
 -- A number as 64 bits hold it.
 abbrev pub held : ℤ → ℤ
 held z = to_z w64 (of_z w64 z)
-
--- A number lies within the range.
-abbrev pub Within : ℤ → Type 0
-Within a = (low ≤ℤ a) × (a ≤ℤ high)
 
 module _ {a b x y : ℤ} (first : Within a) (second : Within b) (is_first : a ≡ x) (is_second : b ≡ y) where
   -- No sum, difference or product of two such numbers loses anything, and no hundredth part of a product.

@@ -116,7 +116,8 @@ module _ (word size : List ℕ) (at : word ≡ 45 ∷ size) where
       rw exact (reads_minus z (n, is, writes, one, small))
   reads_negated (Err e) none = refuses_minus none
 
--- A figure found of a number that a word writes is of that value, and where there is none the word writes none within the range.
+-- A figure found of a number that a word writes is of that value, and where there is none the word writes none within
+-- the range.
 pub value_in_range : (z v : ℤ) → value v ≡ in_range z → v ≡ z
 value_in_range z v e = search rules
 

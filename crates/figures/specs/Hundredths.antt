@@ -1,5 +1,5 @@
--- Figures in hundredths: a value is h hundredths, h a whole number of the range. A product is h × k / 100 hundredths and
--- a quotient 100 × h / k, each cut toward zero before the range is tested.
+-- Figures in hundredths: a value is h hundredths, h a whole number of the range. A product is h × k / 100 hundredths
+-- and a quotient 100 × h / k, each cut toward zero before the range is tested.
 use Rattle.std.specs.Prelude.{not, ◌||◌, ℤ, pos, ◌+ℤ◌, ◌-ℤ◌, ◌*ℤ◌, neg_ℤ, ◌≤ℤ◌, ◌<ℤ◌, int_div, int_lt}
 use Rattle.std.specs.Int.Signed.{shr_z}
 use Rattle.figures.specs.declared.hundredths.Hundredths.{Hundredths}

@@ -1,5 +1,5 @@
 -- The whole numbers that both kinds store: -2,000,000,000 to 2,000,000,000. A result beyond them is refused.
-use Rattle.std.specs.Prelude.{ℕ, zero, suc, cond, ◌&&◌, ℤ, pos, negsuc, ◌*ℤ◌, int_div, int_le, int_lt, nat_le}
+use Rattle.std.specs.Prelude.{ℕ, zero, suc, cond, ◌&&◌, ℤ, pos, negsuc, ◌*ℤ◌, ◌≤ℤ◌, int_div, int_le, int_lt, nat_le}
 use Rattle.figures.specs.declared.fault.Fault.TheVariants.{OutOfRange, DivisionByZero}
 use Rattle.figures.specs.Faults.{number}
 use Rattle.figures.specs.Kinds.{Outcome, value, refused}
@@ -9,6 +9,10 @@ low = negsuc 1999999999
 
 abbrev pub high : ℤ
 high = pos 2000000000
+
+-- A number lies within the range.
+abbrev pub Within : ℤ → Type 0
+Within z = (low ≤ℤ z) × (z ≤ℤ high)
 
 -- A stored number beyond an end of the range is read as that end.
 abbrev pub clamped : ℤ → ℤ

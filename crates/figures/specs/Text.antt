@@ -1,5 +1,5 @@
 -- What is printed of figures, and what is read of a word.
-use Rattle.std.specs.Prelude.{◌≡◌, ℕ, ◌+◌, ◌*◌, ◌/◌, ◌%◌, ◌⊎◌, List, [], ◌∷◌, ◌++◌, length, ℤ, pos, neg_ℤ, ◌≤ℤ◌, Result, Ok, Err, decimal, unsigned_abs}
+use Rattle.std.specs.Prelude.{◌≡◌, ℕ, ◌+◌, ◌*◌, ◌/◌, ◌%◌, ◌⊎◌, List, [], ◌∷◌, ◌++◌, length, ℤ, pos, neg_ℤ, ◌≤ℤ◌, Result, Ok, Err, codes, decimal, unsigned_abs}
 use Rattle.std.specs.Fmt.{sign_text}
 use Rattle.std.specs.Int.{is_negative}
 use Rattle.std.specs.Str.Parse.{IsNumeral, digits_value, signed_digits_value, without_leading_sign}
@@ -31,6 +31,10 @@ WritesAmount word n = (IsNumeral 10 word × (100 * digits_value 10 word ≡ n)) 
 abbrev pub WritesMoney : List ℕ → ℤ → Type 0
 WritesMoney word z =
     ((n : ℕ) × WritesAmount word n × (z ≡ pos n)) ⊎ ((size : List ℕ) × (n : ℕ) × (word ≡ 45 ∷ size) × WritesAmount size n × (z ≡ neg_ℤ (pos n)))
+
+-- What is told of a word of which no figure is read.
+abbrev pub no_figure : List ℕ
+no_figure = codes "the word writes no figure of this kind"
 
 -- What is read of a word: a figure of the value that it writes, or that it writes none within the range.
 abbrev pub Reads : {F : Type 0} → (List ℕ → ℤ → Type 0) → (F → ℤ) → List ℕ → Result F NoFigure → Type 0

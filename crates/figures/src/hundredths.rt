@@ -1,9 +1,9 @@
 // Figures in hundredths.
 
-ghost use Rattle.std.specs.Prelude.{◌≡◌, ◌*◌, ℤ, pos, ◌≤ℤ◌, Some, refl};
+ghost use Rattle.std.specs.Prelude.{◌≡◌, ◌*◌, ℤ, pos, Some, refl};
 ghost use Rattle.figures.specs.Hundredths.{Nearest, hundredths as in_hundredths, hundredths_value};
 ghost use Rattle.figures.specs.Faults.{outcome};
-ghost use Rattle.figures.specs.Range.{high, in_range, low};
+ghost use Rattle.figures.specs.Range.{Within, in_range};
 ghost use Rattle.figures.specs.Text.{Reads, WritesMoney, money_text};
 ghost use Rattle.std.proofs.Common.{arith};
 ghost use Rattle.std.proofs.lemmas.Int.{ints};
@@ -15,8 +15,8 @@ use crate::word::{NoFigure, money};
 use std::fmt;
 use std::str::FromStr;
 
-// So many hundredths; a number beyond ±2,000,000,000 is read as that end of the range. A type of its own beside whole
-// figures, whose product, quotient, rounding and limit are other ones.
+// So many hundredths; a number beyond ±2,000,000,000 is read as that end of the range. A type of its own: its product,
+// quotient, rounding and limit are not those of whole figures.
 #[derive(Clone, Copy, Debug)]
 pub struct Hundredths {
     pub hundredths: i32,
@@ -26,7 +26,7 @@ impl Hundredths {
     // The number of hundredths that it is read as.
     fn value(self) -> i64
         ensures value { result ≡ hundredths_value self }
-        ensures bound { (low ≤ℤ result) × (result ≤ℤ high) }
+        ensures bound { Within result }
     {
         range::read(self.hundredths)
     }
@@ -103,13 +103,14 @@ impl Figures for Hundredths {
     // The whole number n with n - 1/2 ≤ value < n + 1/2.
     fn nearest(self) -> i32
         ensures value { result ≡ in_hundredths.nearest (hundredths_value self) }
-        ensures bound { (low ≤ℤ result) × (result ≤ℤ high) }
+        ensures bound { Within result }
         ensures half { Nearest (hundredths_value self) result }
     {
         // the dividend is not negative, so that cutting its quotient is rounding down
         ((self.value() + 2_000_000_050) / 100 - 20_000_000) as i32
     }
 
+    // no derive of an order, for the reason at `same`
     fn less(self, other: Hundredths) -> bool {
         self.value() < other.value()
     }
@@ -140,6 +141,6 @@ impl FromStr for Hundredths {
     ghost from_str_gives = { Reads WritesMoney hundredths_value };
 
     fn from_str(word: &str) -> Result<Hundredths, NoFigure> {
-        Hundredths::try_from(money(word)?).map_err(|_| NoFigure)
+        Ok(Hundredths::try_from(money(word)?)?)
     }
 }

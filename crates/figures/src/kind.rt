@@ -1,9 +1,9 @@
 // A kind of figures: plain numbers that stand for values of a set, and what rules calculate with them.
 
-ghost use Rattle.std.specs.Prelude.{◌≡◌, ℕ, ◌≤◌, ◌≤ℤ◌};
+ghost use Rattle.std.specs.Prelude.{◌≡◌, ℕ, ◌≤◌};
 ghost use Rattle.figures.specs.Faults.{outcome};
 ghost use Rattle.figures.specs.Kinds.{Counts, Kind, Tells, value};
-ghost use Rattle.figures.specs.Range.{low, high};
+ghost use Rattle.figures.specs.Range.{Within};
 
 use crate::fault::Fault;
 
@@ -39,7 +39,7 @@ pub trait Figures: Copy {
     // The nearest whole number, which lies within ±2,000,000,000.
     fn nearest(self) -> i32
         ensures value { result ≡ kind.nearest (means self) }
-        ensures bound { (low ≤ℤ result) × (result ≤ℤ high) };
+        ensures bound { Within result };
 
     fn less(self, other: Self) -> bool
         ensures { result ≡ kind.less (means self) (means other) };
@@ -56,8 +56,5 @@ pub trait Figures: Copy {
 pub fn zero<F: Figures>() -> F
     ensures { F.Figures.kind.of 0 ≡ value (F.Figures.means result) }
 {
-    match F::of(0) {
-        Ok(figure) => figure,
-        Err(_) => unreachable(),
-    }
+    F::of(0).unwrap()
 }

@@ -1,9 +1,9 @@
-// Stored numbers, and what both kinds calculate with them: a stored number is read within the range, and a result beyond
-// it is refused.
+// Stored numbers, and what both kinds calculate with them: a stored number is read within the range, and a result
+// beyond it is refused.
 
 ghost use Rattle.std.specs.Prelude.{◌≡◌, ℤ, pos, ◌*ℤ◌, ◌≤ℤ◌};
 ghost use Rattle.figures.specs.Faults.{outcome};
-ghost use Rattle.figures.specs.Range.{clamped, high, in_range, low, quotient};
+ghost use Rattle.figures.specs.Range.{Within, clamped, high, in_range, low, quotient};
 
 use crate::fault::Fault;
 
@@ -12,7 +12,7 @@ const LIMIT: i32 = 2_000_000_000;
 // A stored number as it is read: within the range, and in the width in which results are found before they are tested.
 pub fn read(stored: i32) -> i64
     ensures value { result ≡ clamped stored }
-    ensures bound { (low ≤ℤ result) × (result ≤ℤ high) }
+    ensures bound { Within result }
 {
     i64::from(stored.clamp(-LIMIT, LIMIT))
 }

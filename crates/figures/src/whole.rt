@@ -1,8 +1,8 @@
 // Whole figures.
 
-ghost use Rattle.std.specs.Prelude.{◌≡◌, ℤ, pos, ◌≤ℤ◌, Some, refl};
+ghost use Rattle.std.specs.Prelude.{◌≡◌, ℤ, pos, Some, refl};
 ghost use Rattle.figures.specs.Faults.{outcome};
-ghost use Rattle.figures.specs.Range.{high, in_range, low};
+ghost use Rattle.figures.specs.Range.{Within, in_range};
 ghost use Rattle.figures.specs.Whole.{whole, whole_value};
 ghost use Rattle.figures.specs.Text.{Reads, WritesWhole};
 ghost use Rattle.std.specs.Fmt.{signed_decimal};
@@ -15,8 +15,9 @@ use crate::word::NoFigure;
 use std::fmt;
 use std::str::FromStr;
 
-// A whole number; one beyond ±2,000,000,000 is read as that end of the range. No instance of one type with the scale as
-// a parameter, shared with hundredths: its product and quotient would then be defined through a scale of 1.
+// A whole number; one beyond ±2,000,000,000 is read as that end of the range. A type of its own beside hundredths: with
+// the scale as a parameter, whole figures would be multiplied, divided and rounded through a scale of 1, and printed
+// and read by a case apart.
 #[derive(Clone, Copy, Debug)]
 pub struct Whole {
     pub units: i32,
@@ -26,7 +27,7 @@ impl Whole {
     // The number that it is read as.
     fn value(self) -> i64
         ensures value { result ≡ whole_value self }
-        ensures bound { (low ≤ℤ result) × (result ≤ℤ high) }
+        ensures bound { Within result }
     {
         range::read(self.units)
     }
@@ -100,6 +101,7 @@ impl Figures for Whole {
         self.value() as i32
     }
 
+    // no derive of an order, for the reason at `same`
     fn less(self, other: Whole) -> bool {
         self.value() < other.value()
     }
@@ -127,7 +129,7 @@ impl FromStr for Whole {
     ghost from_str_gives = { Reads WritesWhole whole_value };
 
     fn from_str(word: &str) -> Result<Whole, NoFigure> {
-        let number = word.parse::<i64>().map_err(|_| NoFigure)?;
-        Whole::try_from(number).map_err(|_| NoFigure)
+        let number: i64 = word.parse()?;
+        Ok(Whole::try_from(number)?)
     }
 }

@@ -1,13 +1,43 @@
 // Figures read from words, as people write them.
 
-ghost use Rattle.std.specs.Prelude.{◌≡◌, ℕ, ◌≤◌, ◌<◌, ◌^◌, ℤ, pos};
+ghost use Rattle.std.specs.Prelude.{◌<◌, ◌^◌, Some};
 ghost use Rattle.std.specs.Result.{OkIff};
 ghost use Rattle.std.specs.Str.Parse.{IsNumeral, digits_value};
 ghost use Rattle.figures.specs.Amounts.{ReadsAmount, ReadsMoney, ReadsParts};
+ghost use Rattle.figures.specs.Text.{no_figure};
+
+use crate::fault::Fault;
+use std::error::Error;
+use std::fmt;
+use std::num::ParseIntError;
 
 // The word writes no figure of the kind.
 #[derive(Clone, Copy, PartialEq, Eq, Debug)]
 pub struct NoFigure;
+
+impl fmt::Display for NoFigure {
+    ghost output = { λ _. Some no_figure };
+
+    fn fmt<W: fmt::Write>(&self, f: &mut fmt::Formatter<W>) -> fmt::Result {
+        f.write_str("the word writes no figure of this kind")
+    }
+}
+
+impl Error for NoFigure {}
+
+// A number that lies outside the kind's range is no figure of it.
+impl From<Fault> for NoFigure {
+    fn from(_e: Fault) -> NoFigure {
+        NoFigure
+    }
+}
+
+// Nor is a word that writes no number.
+impl From<ParseIntError> for NoFigure {
+    fn from(_e: ParseIntError) -> NoFigure {
+        NoFigure
+    }
+}
 
 // The number that digits write.
 fn digits(word: &str) -> Result<u32, NoFigure>
@@ -16,7 +46,7 @@ fn digits(word: &str) -> Result<u32, NoFigure>
     if word.starts_with('+') {
         return Err(NoFigure);
     }
-    word.parse().map_err(|_| NoFigure)
+    Ok(word.parse()?)
 }
 
 // So many units, and so many hundredths in two digits.

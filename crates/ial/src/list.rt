@@ -51,18 +51,18 @@ impl fmt::Display for Line {
         };
         match operation.operand() {
             Operand::Unused if operand == 0 => write!(f, "{place:>6}  {operation}"),
-            kind => write!(f, "{place:>6}  {operation:<6} {}", InWords(kind, operand)),
+            kind => write!(f, "{place:>6}  {operation:<6} {}", OperandInWords(kind, operand)),
         }
     }
 }
 
 // An operand in words.
 #[derive(Clone, Copy)]
-struct InWords(Operand, u64);
+struct OperandInWords(Operand, u64);
 
-impl fmt::Display for InWords {
+impl fmt::Display for OperandInWords {
     fn fmt<W: fmt::Write>(&self, f: &mut fmt::Formatter<W>) -> fmt::Result {
-        let InWords(kind, x) = *self;
+        let OperandInWords(kind, x) = *self;
         match kind {
             Operand::Unused => write!(f, "operand {x}"),
             Operand::TextPlace => write!(f, "text {x}"),

@@ -15,6 +15,7 @@ const MOST: usize = 4_096;
 #[derive(Drop)]
 pub struct Loaded {
     pub sizes: Sizes,
+    // two arrays, as the check takes them
     pub operations: Vec<u8>,
     pub operands: Vec<u64>,
 }

@@ -51,7 +51,7 @@ impl<F: fmt::Display> fmt::Display for Outcome<'_, F> {
             writeln!(f, "  {figure}")?;
         }
         writeln!(f, "count: {}", self.status.count)?;
-        writeln!(f, "status: {}", InWords(self.status.standing))?;
+        writeln!(f, "status: {}", StandingInWords(self.status.standing))?;
         writeln!(f, "cells: {}", self.sizes.named)?;
         for (cell, figure) in self.cells.iter().enumerate() {
             writeln!(f, "  {cell}: {figure}")?;
@@ -62,9 +62,9 @@ impl<F: fmt::Display> fmt::Display for Outcome<'_, F> {
 
 // How a run stands, in words.
 #[derive(Clone, Copy)]
-struct InWords(Standing);
+struct StandingInWords(Standing);
 
-impl fmt::Display for InWords {
+impl fmt::Display for StandingInWords {
     fn fmt<W: fmt::Write>(&self, f: &mut fmt::Formatter<W>) -> fmt::Result {
         match self.0 {
             Standing::Going => f.write_str("going"),

@@ -41,12 +41,11 @@ fn filtered<R: Roll + Drop>(
     rt: &HostRuntime,
     options: &RunOptions,
     code: &Checked<'_>,
-    roll: R,
+    mut roll: R,
 ) -> Result<(), Failure>
 where
     R::Figure: fmt::Display + FromStr<Err = NoFigure>,
 {
-    let mut roll = roll;
     match options.group {
         None => run(rt, options, code, &mut roll),
         Some(size) => {

@@ -85,7 +85,8 @@ impl<'a> RunOptions<'a> {
                 ))?;
             }
             "--limit" => self.limit = value.parse()?,
-            _ => self.settings.push(Setting::try_from(value)?)?,
+            "--set" => self.settings.push(Setting::try_from(value)?)?,
+            _ => return Err(Failure::Usage(USAGE)),
         }
         Ok(())
     }
@@ -106,11 +107,10 @@ fn take_file<'a>(
 }
 
 // The words after `run`: the code's file first, then the roll's, and options wherever they stand.
-pub(crate) fn parse<'a>(heap: Global, words: &[&'a str]) -> Result<Command<'a>, Failure> {
+pub(crate) fn parse<'a>(heap: Global, mut words: &[&'a str]) -> Result<Command<'a>, Failure> {
     let mut options = RunOptions::new(heap);
     let mut code = None;
     let mut roll = None;
-    let mut words = words;
     'words: loop {
         words = match words {
             [] => break,

@@ -33,6 +33,7 @@ fn line_start(bytes: &[u8]) -> usize
     ensures value { result ≡ last_start 0 0 bytes.now }
     ensures within { result ≤ length bytes.now }
 {
+    // a `match`: the check does not find what `map_or` makes of the place
     match bytes.iter().rposition(|b| *b == b'\n') {
         Some(end) => end + 1,
         None => 0,
@@ -44,6 +45,7 @@ fn to_line_end(bytes: &[u8]) -> usize
     ensures value { result ≡ to_line_end bytes.now }
     ensures within { result ≤ length bytes.now }
 {
+    // a `match`: the check does not find what `unwrap_or` makes of the place
     match bytes.iter().position(|b| *b == b'\n') {
         Some(end) => end,
         None => bytes.len(),

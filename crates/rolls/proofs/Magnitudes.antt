@@ -1,4 +1,5 @@
--- What the digits in front say of the line there: each outcome of the reader of whole figures, in the words of the rule.
+-- What the digits in front say of the line there: each outcome of the reader of whole figures, in the words of the
+-- rule.
 use Rattle.std.proofs.Common.{◌≡◌, ℕ, ◌<◌, ◌≤◌, true, false, List, [], ◌∷◌, ◌++◌, length, None, sym, ap, ◌∙◌, ⊎_elim, arith, length-append}
 use Rattle.std.proofs.lemmas.List.{append-nil}
 use Rattle.std.proofs.lemmas.Bool.{and_left, and_right, cases_lt}

@@ -1,4 +1,5 @@
--- Files as whole lines: what a file's lines and its unended rest have to do with its bytes, and what reading makes of them.
+-- Files as whole lines: what a file's lines and its unended rest have to do with its bytes, and what reading makes of
+-- them.
 use Rattle.std.proofs.Common.{◌≡◌, ℕ, suc, ◌+◌, true, false, not, eqb, ◌⊎◌, List, [], ◌∷◌, ◌++◌, length, ℤ, pos, neg_ℤ, Some, None, Option, sym, refl, ap, ◌∙◌, subst, ap₂, inl, inr, ⊎_elim, append_assoc, arith, length-append}
 use Rattle.std.proofs.lemmas.Bool.{and_parts, cases_Bool, cond-false, cond-true, eqb-true, ne_eqb}
 use Rattle.rolls.specs.Contents.{Contents, damaged_at}

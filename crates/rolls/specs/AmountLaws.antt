@@ -1,20 +1,20 @@
--- The laws of amounts in files: a line that writes an amount has no byte 10 inside, and the line of a written amount holds
--- it.
-use Rattle.std.proofs.Common.{◌≡◌, ℕ, suc, ◌+◌, ◌-◌, ◌*◌, ◌/◌, ◌%◌, ◌^◌, ◌<◌, ◌≤◌, true, false, leb, List, [], ◌∷◌, ◌++◌, length, get_or, take, drop, ℤ, pos, negsuc, neg_ℤ, ◌≤ℤ◌, Some, None, decimal, Option, sym, refl, ap, ◌∙◌, ap₂, ⊎_elim, arith, leb→le}
+-- The laws of amounts in files: a line that writes an amount has no byte 10 inside, and the line of a written amount
+-- holds it.
+use Rattle.std.proofs.Common.{◌≡◌, ℕ, suc, ◌+◌, ◌-◌, ◌*◌, ◌/◌, ◌%◌, ◌^◌, ◌<◌, ◌≤◌, true, false, leb, List, [], ◌∷◌, ◌++◌, length, get_or, take, drop, ℤ, pos, negsuc, ◌≤ℤ◌, Some, None, decimal, Option, sym, refl, ap, ◌∙◌, ap₂, ⊎_elim, arith, leb→le}
 use Rattle.std.proofs.lemmas.Fmt.{decimal_nonempty, digits_decimal, length-decimal-le, digits_value-decimal}
 use Rattle.std.proofs.lemmas.List.{append_assoc, drop_at, drop_more, get_or_append_left, get_or_at, length-append, length_push, take_at, take-append-drop}
 use Rattle.std.proofs.lemmas.Bool.{and_from, and_parts, cases_Bool, cond-false, cond-true, eq-eqb, eqb-true, le-leb, leb-true}
 use Rattle.figures.specs.Range.{low, high}
 use Rattle.rolls.specs.Amounts.{amount, amount_digits, amount_figure, amount_text, digits_number, has_point, in_hundredths, is_number}
 use Rattle.rolls.specs.Lines.{all_digits, digits_value, is_digit, no_end, with_sign}
-use Rattle.rolls.specs.LineLaws.{digit_from_bounds, digits_no_end, no_end_append, own, plain_line}
+use Rattle.rolls.specs.LineLaws.{digit_from_bounds, digits_no_end, negative, no_end_append, own, plain_line}
 
 -- A row that fails a test writes no number.
 pub number_none : (ds : List ℕ) → is_number ds ≡ false → digits_number ds ≡ None
 number_none ds fails = cond-false (is_number ds) (Some (digits_value 0 ds)) None fails
 
 module _ (line : List ℕ) where
-  -- A line with a point, and one without.
+  -- What a line with a point writes.
   pub point_amount : 3 ≤ length line → get_or line (length line - 3) 0 ≡ 46 → amount line ≡ in_hundredths (digits_number (take (length line - 3) line)) (digits_number (drop (length line - 2) line))
   point_amount long point =
       cond-true (has_point line) _ (in_hundredths (digits_number line) (Some 0))
@@ -63,21 +63,27 @@ first_digit (d ∷ ds) digits some =
     leb-true 48 d (and_parts (leb 48 d) (leb d 57) digit).0
 
 module _ (n : ℕ) (small : n ≤ 2000000000) where
+  -- The digits of the units of an amount of n hundredths.
   abbrev units : List ℕ
   units = decimal (n / 100)
 
+  -- The first digit behind the point.
   abbrev tenths : ℕ
   tenths = 48 + n % 100 / 10
 
+  -- The second digit behind the point.
   abbrev last : ℕ
   last = 48 + n % 10
 
+  -- The units are a number of 64 bits.
   wide : n / 100 < 2 ^ 64
   wide = omega arith
 
+  -- The digits of the units are digits.
   units_digits : all_digits units ≡ true
   units_digits = digits_decimal own (n / 100) wide
 
+  -- They write the units.
   units_number : digits_number units ≡ Some (n / 100)
   units_number =
       let passes : is_number units ≡ true =
@@ -87,6 +93,7 @@ module _ (n : ℕ) (small : n ≤ 2000000000) where
       in
       cond-true (is_number units) (Some (digits_value 0 units)) None passes ∙ ap Some (digits_value-decimal own (n / 100) wide)
 
+  -- The two digits behind the point write the hundredths.
   hundredths_number : digits_number (tenths ∷ last ∷ []) ≡ Some (n % 100)
   hundredths_number =
       let row = tenths ∷ last ∷ [] in
@@ -117,7 +124,7 @@ module _ (n : ℕ) (small : n ≤ 2000000000) where
       ∙ cond-true (leb (100 * (n / 100) + n % 100) 2000000000) (Some (100 * (n / 100) + n % 100)) None (le-leb (100 * (n / 100) + n % 100) 2000000000 (omega arith))
       ∙ ap Some same
 
-  -- They begin with a digit, so they hold it without a sign.
+  -- They begin with a digit, so that their line holds the amount as it is.
   digits_figure : amount_figure (amount_digits n) ≡ Some (pos n)
   digits_figure =
       let line = amount_digits n in
@@ -132,4 +139,4 @@ pub written_amount : (z : ℤ) → low ≤ℤ z → z ≤ℤ high → amount_fig
 written_amount (pos n) above below = digits_figure n (leb→le n 2000000000 below.le)
 written_amount (negsuc n) above below =
     let least : n ≤ 1999999999 = leb→le n 1999999999 above.le in
-    ap (with_sign (λ m. neg_ℤ (pos m))) (digits_amount (suc n) (omega arith))
+    ap (with_sign negative) (digits_amount (suc n) (omega arith))

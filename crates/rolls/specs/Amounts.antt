@@ -1,6 +1,6 @@
--- The amounts file: figures in hundredths, one a line. A line is an optional minus sign, 1 to 10 digits, and then nothing
--- or a point and two digits; its value is within ±2,000,000,000 hundredths. Lines, damage and ending are those of every
--- roll file.
+-- The amounts file: figures in hundredths, one a line. A line is an optional minus sign, 1 to 10 digits, and then
+-- nothing or a point and two digits; its value is within ±2,000,000,000 hundredths. Lines, damage and ending are those
+-- of every roll file.
 use Rattle.std.specs.Prelude.{ℕ, suc, ◌+◌, ◌-◌, ◌*◌, ◌/◌, ◌%◌, ◌≤◌, Bool, cond, ◌&&◌, List, [], ◌∷◌, ◌++◌, length, take, drop, ℤ, pos, negsuc, Some, None, decimal, Option, ◌==◌, nat_le, slice_index}
 use Rattle.figures.specs.declared.hundredths.Hundredths.{Hundredths}
 use Rattle.rolls.specs.Contents.{Contents}
@@ -37,6 +37,7 @@ amount_figure = signed_line amount
 abbrev pub read_amounts : ℕ → List ℕ → Contents ℤ
 read_amounts = read_as amount_figure
 
+-- The figure of so many hundredths.
 abbrev pub hundredths_figure : ℤ → Hundredths
 hundredths_figure z = record { hundredths = z }
 

@@ -9,12 +9,15 @@ abbrev pub how_it_ends : Ending → HowItEnds
 how_it_ends End = ends
 how_it_ends (Damaged place) = damaged_at place
 
+-- The number under which users know it.
 abbrev pub number : Ending → ℕ
 number e = ending_number (how_it_ends e)
 
+-- What taking answers at it.
 abbrev pub stopped : {F : Type 0} → Ending → Taken F
 stopped e = at_ending (how_it_ends e)
 
+-- What a call's answer says.
 abbrev pub taken : {F : Type 0} → Result F Ending → Taken F
 taken (Ok x) = took x
 taken (Err e) = stopped e

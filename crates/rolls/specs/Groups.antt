@@ -1,5 +1,5 @@
--- The leaver filter: the roll is parted into groups of g figures, the last perhaps shorter; a group whose first figure is
--- zero stands for someone who has left, and is dropped whole. The other groups are kept, in order.
+-- The leaver filter: the roll is parted into groups of g figures, the last perhaps shorter; a group whose first figure
+-- is zero stands for someone who has left, and is dropped whole. The other groups are kept, in order.
 use Rattle.std.specs.Prelude.{◌≡◌, ℕ, zero, suc, ◌≤◌, Bool, cond, List, [], ◌∷◌, ◌++◌, length, take, drop}
 use Rattle.rolls.specs.Contents.{Contents}
 

@@ -4,7 +4,7 @@ use Rattle.std.proofs.lemmas.Str.Parse.{IsNumeralModel, numerals_by_fold}
 use Rattle.std.proofs.lemmas.Bool.{and_from, and_parts, cond-false, le-leb, leb-true, ne_eqb}
 use Rattle.rolls.specs.Lines.{all_digits, digits_value, is_digit, no_end, signed_line, with_sign}
 
--- These are the digits and numbers of the library's own words.
+-- Digits and the number they write are here what std means by them.
 pub own : IsNumeralModel (λ ds. all_digits ds ≡ true) (digits_value 0)
 own = numerals_by_fold _ (search rules) digits_value (search rules)
 
@@ -36,6 +36,7 @@ no_end_append (x ∷ xs) ys p q =
     let parts = and_parts (not (eqb x 10)) (no_end xs) p in
     and_from (not (eqb x 10)) (no_end (xs ++ ys)) parts.0 (no_end_append xs ys parts.1 q)
 
+-- The number of this size behind a minus sign.
 abbrev pub negative : ℕ → ℤ
 negative n = neg_ℤ (pos n)
 

@@ -1,6 +1,6 @@
--- Roll files: figures, one a line, each line ended by byte 10. The first line that holds no figure, or has no end, damages
--- the roll from its first byte on. What a line holds is a matter of the kind: for whole figures it is an optional minus
--- sign and 1 to 10 digits with a value within ±2,000,000,000.
+-- Roll files: figures, one a line, each line ended by byte 10. The first line that holds no figure, or has no end,
+-- damages the roll from its first byte on. What a line holds is a matter of the kind: for whole figures it is an
+-- optional minus sign and 1 to 10 digits with a value within ±2,000,000,000.
 use Rattle.std.specs.Prelude.{ℕ, ◌+◌, ◌-◌, ◌*◌, Bool, true, cond, not, ◌&&◌, List, [], ◌∷◌, length, ℤ, pos, neg_ℤ, Some, None, Option, ◌==◌, nat_le}
 use Rattle.rolls.specs.Contents.{Contents, ends, damaged_at}
 

@@ -1,6 +1,6 @@
--- What a roll file means, said of whole lines, for any function `figure` that says which figure a line holds: the figures
--- are those of the leading lines that hold one, in order, and the roll ends where these are all, or is damaged where they
--- stop. And a list of figures, written one a line, is read back.
+-- What a roll file means, said of whole lines, for any function `figure` that says which figure a line holds: the
+-- figures are those of the leading lines that hold one, in order, and the roll ends where these are all, or is damaged
+-- where they stop. And a list of figures, written one a line, is read back.
 use Rattle.std.specs.Prelude.{◌≡◌, ℕ, ◌+◌, List, [], ◌∷◌, ◌++◌, map, length, ℤ, ◌≤ℤ◌, Some, Option, ◌≢◌}
 use Rattle.figures.specs.Range.{low, high}
 use Rattle.rolls.specs.Contents.{Contents, HowItEnds, all_of, damaged_at, ends}

@@ -3,6 +3,7 @@ use Rattle.std.specs.Prelude.{◌≡◌, ℕ, ◌<◌, ◌≤◌, Bool, true, fa
 use Rattle.figures.specs.declared.whole.Whole.{Whole}
 use Rattle.rolls.specs.Lines.{all_digits, digits_value, is_digit}
 
+-- The whole figure of a number.
 abbrev pub whole_figure : ℤ → Whole
 whole_figure z = record { units = z }
 

@@ -1,12 +1,12 @@
--- The laws of whole figures in files: a line that writes a number has no byte 10 inside, and the line of a written number
--- holds it.
-use Rattle.std.proofs.Common.{◌≡◌, ℕ, suc, ◌^◌, ◌<◌, ◌≤◌, true, false, leb, List, [], ◌∷◌, length, ℤ, pos, negsuc, neg_ℤ, ◌≤ℤ◌, Some, None, decimal, ap, ◌∙◌, ⊎_elim, arith, leb→le}
+-- The laws of whole figures in files: a line that writes a number has no byte 10 inside, and the line of a written
+-- number holds it.
+use Rattle.std.proofs.Common.{◌≡◌, ℕ, suc, ◌^◌, ◌<◌, ◌≤◌, true, false, leb, List, [], ◌∷◌, length, ℤ, pos, negsuc, ◌≤ℤ◌, Some, None, decimal, ap, ◌∙◌, ⊎_elim, arith, leb→le}
 use Rattle.std.proofs.lemmas.Fmt.{decimal_nonempty, digits_decimal, length-decimal-le, digits_value-decimal}
 use Rattle.std.proofs.lemmas.Bool.{and_from, and_parts, cases_Bool, cond-false, cond-true, le-leb, leb-true}
 use Rattle.std.specs.Fmt.{signed_decimal}
 use Rattle.figures.specs.Range.{low, high}
 use Rattle.rolls.specs.Lines.{all_digits, digits_value, is_digit, is_magnitude, line_figure, magnitude, no_end, with_sign}
-use Rattle.rolls.specs.LineLaws.{digits_no_end, own, plain_line}
+use Rattle.rolls.specs.LineLaws.{digits_no_end, negative, own, plain_line}
 
 -- A line with a magnitude has no byte 10 inside.
 pub magnitude_no_end : (ds : List ℕ) (n : ℕ) → magnitude ds ≡ Some n → no_end ds ≡ true
@@ -52,4 +52,4 @@ pub signed_figure : (z : ℤ) → low ≤ℤ z → z ≤ℤ high → line_figure
 signed_figure (pos n) above below = magnitude_figure (decimal n) n (decimal_magnitude n (leb→le n 2000000000 below.le))
 signed_figure (negsuc n) above below =
     let least : n ≤ 1999999999 = leb→le n 1999999999 above.le in
-    ap (with_sign (λ m. neg_ℤ (pos m))) (decimal_magnitude (suc n) (omega arith))
+    ap (with_sign negative) (decimal_magnitude (suc n) (omega arith))

@@ -17,6 +17,7 @@ pub(crate) fn read_digits(bytes: &[u8]) -> (u64, &[u8])
 {
     let front = &bytes[..bytes.len().min(10)];
     let mut value: u64 = 0;
+    // one walk counts the digits and values them
     for (i, b) in front.iter().enumerate() {
         if !b.is_ascii_digit() {
             return (value, &bytes[i..]);
