@@ -1,8 +1,8 @@
 -- Results of 64 bits, found from two numbers of the range.
-use Rattle.std.proofs.Common.{◌≡◌, ℤ, pos, ◌+ℤ◌, ◌-ℤ◌, ◌*ℤ◌, ◌≤ℤ◌, ap, ap₂, ◌∙◌, arith, w64, SFits, to_z, of_z, rules, lit<}
+use Rattle.std.proofs.Common.{◌≡◌, ℤ, pos, ◌+ℤ◌, ◌-ℤ◌, ◌*ℤ◌, ap, ap₂, ◌∙◌, arith, w64, SFits, to_z, of_z, rules, lit<}
 use lib.Signed.{quot_z}
 use Rattle.std.proofs.lemmas.Int.{fits_signed_mul, ints, to_z-of_z}
-use Rattle.figures.specs.Range.{Within, high, low, quotient}
+use Rattle.figures.specs.Range.{Within, quotient}
 
 -- A number as 64 bits hold it.
 abbrev pub held : ℤ → ℤ

@@ -1,7 +1,7 @@
 -- The amounts file: figures in hundredths, one a line. A line is an optional minus sign, 1 to 10 digits, and then
 -- nothing or a point and two digits; its value is within ±2,000,000,000 hundredths. Lines, damage and ending are those
 -- of every roll file.
-use Rattle.std.specs.Prelude.{ℕ, suc, ◌+◌, ◌-◌, ◌*◌, ◌/◌, ◌%◌, ◌≤◌, Bool, cond, ◌&&◌, List, [], ◌∷◌, ◌++◌, length, take, drop, ℤ, pos, negsuc, Some, None, decimal, Option, ◌==◌, nat_le, slice_index}
+use Rattle.std.specs.Prelude.{ℕ, suc, ◌+◌, ◌-◌, ◌*◌, ◌/◌, ◌%◌, Bool, cond, ◌&&◌, List, [], ◌∷◌, ◌++◌, length, take, drop, ℤ, pos, negsuc, Some, None, decimal, Option, ◌==◌, nat_le, slice_index}
 use Rattle.figures.specs.declared.hundredths.Hundredths.{Hundredths}
 use Rattle.rolls.specs.Contents.{Contents}
 use Rattle.rolls.specs.Lines.{all_digits, digits_value, read_as, signed_line}
@@ -49,7 +49,3 @@ abbrev pub amount_text : ℤ → List ℕ
 amount_text (pos n) = amount_digits n
 amount_text (negsuc n) = 45 ∷ amount_digits (suc n)
 
--- An amount without its sign is within the range.
-abbrev pub WithinRange : Option ℕ → Type 0
-WithinRange (Some n) = n ≤ 2000000000
-WithinRange None = Unit {0}

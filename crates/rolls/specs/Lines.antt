@@ -1,7 +1,7 @@
 -- Roll files: figures, one a line, each line ended by byte 10. The first line that holds no figure, or has no end,
 -- damages the roll from its first byte on. What a line holds is a matter of the kind: for whole figures it is an
 -- optional minus sign and 1 to 10 digits with a value within ±2,000,000,000.
-use Rattle.std.specs.Prelude.{ℕ, ◌+◌, ◌-◌, ◌*◌, Bool, true, cond, not, ◌&&◌, List, [], ◌∷◌, length, ℤ, pos, neg_ℤ, Some, None, Option, ◌==◌, nat_le}
+use Rattle.std.specs.Prelude.{ℕ, ◌+◌, ◌-◌, ◌*◌, ◌≤◌, Bool, true, cond, not, ◌&&◌, List, [], ◌∷◌, length, ℤ, pos, neg_ℤ, Some, None, Option, ◌==◌, nat_le}
 use Rattle.rolls.specs.Contents.{Contents, ends, damaged_at}
 
 -- A file as its lines, each without the byte 10 that ends it, and what stands after the last of these bytes.
@@ -46,6 +46,11 @@ is_magnitude ds = all_digits ds && (nat_le 1 (length ds) && (nat_le (length ds) 
 abbrev pub magnitude : List ℕ → Option ℕ
 magnitude ds = cond (is_magnitude ds) (Some (digits_value 0 ds)) None
 
+-- A number without its sign is within the range.
+abbrev pub WithinRange : ℕ → Type 0
+WithinRange n = n ≤ 2000000000
+
+-- A number behind its sign.
 abbrev pub with_sign : (ℕ → ℤ) → Option ℕ → Option ℤ
 with_sign sign (Some n) = Some (sign n)
 with_sign sign None = None

@@ -1,7 +1,8 @@
 // A roll over the bytes of a file of amounts.
 
-ghost use Rattle.std.specs.Prelude.{◌≡◌, Some, refl};
-ghost use Rattle.rolls.specs.Amounts.{WithinRange, amount, amount_text, digits_number, hundredths_figure, in_hundredths};
+ghost use Rattle.std.specs.Prelude.{◌≡◌, IfSome, Some, refl};
+ghost use Rattle.rolls.specs.Amounts.{amount, amount_text, digits_number, hundredths_figure, in_hundredths};
+ghost use Rattle.rolls.specs.Lines.{WithinRange};
 ghost use Rattle.rolls.specs.AmountLaws.{amount_line_no_end, written_amount};
 
 use crate::file::{FileRoll, LineFigures};
@@ -21,7 +22,7 @@ fn read_number(ds: &[u8]) -> Option<u64>
 // So many units and hundredths, in hundredths, within the range.
 fn in_hundredths(units: u64, part: u64) -> Option<u32>
     ensures value { result ≡ in_hundredths (Some units) (Some part) }
-    ensures small { WithinRange result }
+    ensures small { IfSome result WithinRange }
 {
     let hundredths = units.checked_mul(100)?.checked_add(part)?;
     if hundredths > 2_000_000_000 {
@@ -33,7 +34,7 @@ fn in_hundredths(units: u64, part: u64) -> Option<u32>
 // The amount that a line without its sign writes.
 fn read_amount(line: &[u8]) -> Option<u32>
     ensures value { result ≡ amount line.now }
-    ensures small { WithinRange result }
+    ensures small { IfSome result WithinRange }
 {
     if let [units @ .., b'.', tens, ones] = line {
         return in_hundredths(read_number(units)?, read_number(&[*tens, *ones])?);

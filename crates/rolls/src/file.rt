@@ -1,9 +1,9 @@
 // A roll over the bytes of a file of figures, one a line, read where they are.
 
-ghost use Rattle.std.specs.Prelude.{◌≡◌, ℕ, ℤ, Some, Option, None, [], List, MatchOption, IfSome, ◌+◌, ◌^◌, ◌<◌, ◌≤◌, ◌≤ℤ◌, true, length};
+ghost use Rattle.std.specs.Prelude.{◌≡◌, ℕ, ℤ, Some, Option, None, [], List, MatchOption, IfSome, ◌+◌, ◌^◌, ◌<◌, ◌≤ℤ◌, true, length};
 ghost use Rattle.figures.specs.Range.{low, high};
 ghost use Rattle.rolls.specs.Contents.{made_of};
-ghost use Rattle.rolls.specs.Lines.{no_end, read_as, signed_line};
+ghost use Rattle.rolls.specs.Lines.{WithinRange, no_end, read_as, signed_line};
 ghost use Rattle.rolls.specs.Reading.{FigureLine, NoFigureLine, Reading, ReadsBack};
 
 use crate::roll::{Ending, Roll};
@@ -26,7 +26,7 @@ pub trait LineFigures: Figures {
     // The number without a sign that the line in front writes, and the bytes behind that line.
     fn read_unsigned(bytes: &[u8]) -> Option<(u32, &[u8])>
         ensures line { MatchOption result (NoFigureLine unsigned bytes.now) (λ r. FigureLine unsigned bytes.now r.0 r.1.now) }
-        ensures small { IfSome result (λ r. r.0 ≤ 2000000000) };
+        ensures small { IfSome result (λ r. WithinRange r.0) };
 
     // a line that writes a number has no line end inside and is not empty, and a number that is written is read back
     ghost one_line: { (line : List ℕ) (n : ℕ) → unsigned line ≡ Some n → no_end line ≡ true };
@@ -49,7 +49,7 @@ pub struct FileRoll<'a, F> {
 impl<'a, F: LineFigures> FileRoll<'a, F> {
     // The roll of all lines of a file.
     pub fn new(bytes: &'a [u8]) -> FileRoll<'a, F>
-        ensures value { made_of F.made (read_as (signed_line F.unsigned) result.at result.rest.now) ≡ made_of F.made (read_as (signed_line F.unsigned) 0 bytes.now) }
+        ensures value { ⟦<FileRoll<'a, F> as Roll>⟧.holds result ≡ made_of F.made (read_as (signed_line F.unsigned) 0 bytes.now) }
         ensures read_back { ReadsBack (signed_line F.unsigned) F.written bytes.now }
         ensures lines { Reading (signed_line F.unsigned) 0 bytes.now (read_as (signed_line F.unsigned) 0 bytes.now) }
     {
