@@ -129,31 +129,10 @@ module _ (p : ℕ) (bs : List ℕ) where
     pub number_refused : 9 < n → next_refused WordTooLong p ≡ word_at p bs (number_at bs)
     number_refused lt = let e = lt-leb n 9 lt in sym (rw e) ∙ number_here
 
--- The first byte decides what the longest word is.
+-- What the first byte says.
 module _ (bs : List ℕ) (some : 0 < length bs) where
   abbrev first : ℕ
   first = get_or bs 0 0
-
-  whole : bs ≡ first ∷ drop 1 bs
-  whole = at_drop_more (λ z. z) bs 0 0 some
-
-  by_first : longest_at bs ≡ cond (is_ascii_alphabetic first) (name_at bs) (cond (is_ascii_digit first) (number_at bs) (mark_at bs))
-  by_first = ap longest_at whole ∙ ap (λ z. cond (is_ascii_alphabetic first) (name_at z) (cond (is_ascii_digit first) (number_at z) (mark_at z))) (sym whole)
-
-  pub letter_to_longest_is_name : is_ascii_alphabetic first ≡ true → longest_at bs ≡ name_at bs
-  letter_to_longest_is_name l = by_first ∙ cond-true (is_ascii_alphabetic first) (name_at bs) (cond (is_ascii_digit first) (number_at bs) (mark_at bs)) l
-
-  pub digit_to_longest_is_number : is_ascii_alphabetic first ≡ false → is_ascii_digit first ≡ true → longest_at bs ≡ number_at bs
-  digit_to_longest_is_number l d =
-      by_first
-      ∙ (cond-false (is_ascii_alphabetic first) (name_at bs) (cond (is_ascii_digit first) (number_at bs) (mark_at bs)) l
-      ∙ cond-true (is_ascii_digit first) (number_at bs) (mark_at bs) d)
-
-  pub other_to_longest_is_mark : is_ascii_alphabetic first ≡ false → is_ascii_digit first ≡ false → longest_at bs ≡ mark_at bs
-  other_to_longest_is_mark l d =
-      by_first
-      ∙ (cond-false (is_ascii_alphabetic first) (name_at bs) (cond (is_ascii_digit first) (number_at bs) (mark_at bs)) l
-      ∙ cond-false (is_ascii_digit first) (number_at bs) (mark_at bs) d)
 
   -- A run of a class that its first byte is of is not empty.
   pub run_not_empty : (p : ℕ → Bool) → p first ≡ true → 0 < prefix_len p bs

@@ -39,7 +39,8 @@ fn skipped(name: &[u8], after: &[u8]) -> usize
     }
 }
 
-// The name or reserved word at the front, where a letter stands: its token, and how many bytes it takes with what it skips.
+// The name or reserved word at the front, where a letter stands: its token, and how many bytes it takes with what it
+// skips.
 fn read_name(bytes: &[u8]) -> Result<(Token, usize), WordRefusal>
     requires some { 0 < length bytes.now }
     requires letter { is_ascii_alphabetic (slice_index bytes.now 0) ≡ true }
@@ -88,7 +89,7 @@ fn read_mark(bytes: &[u8]) -> Result<(Token, usize), WordRefusal>
     if let Some(token) = longer_mark(bytes) {
         return Ok((token, 2));
     }
-    // no `ok_or` with `?`: the check does not see through it here which refusal comes
+    // a `match`: behind `ok_or` and `?` the check does not find which refusal comes
     match one_byte_mark(bytes[0]) {
         Some(token) => Ok((token, 1)),
         None => Err(WordRefusal::NoWord),
@@ -121,7 +122,7 @@ pub fn next_word(text: &[u8], at: usize) -> Result<Option<(Word, usize)>, Refusa
     if bytes.is_empty() {
         return Ok(None);
     }
-    // no `map_err` with `?`, for the same reason
+    // a `match`, as in `read_mark`
     match read_word(bytes) {
         Ok((token, taken)) => Ok(Some((Word { token, place }, place + taken))),
         Err(reason) => Err(Refusal { reason, place }),
