@@ -1,5 +1,5 @@
--- What the contracts of the crate's inner functions say: fixed words looked up, and a word at the front of some bytes. No
--- public contract cites these.
+-- What the contracts of the crate's inner functions say: fixed words looked up, and a word at the front of some bytes.
+-- No public contract cites these.
 use Rattle.std.specs.Prelude.{ℕ, ◌+◌, ◌<◌, ◌≤◌, List, [], drop, Some, None, Option, Ok, Err, Result}
 use Rattle.words.specs.declared.token.Token.{Token as TokenRecord}
 use Rattle.words.specs.declared.token.Token.TheVariants.{Name, Number, Keyword, Mark, Sign, Scaling, Relation}
