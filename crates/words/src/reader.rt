@@ -4,9 +4,9 @@ ghost use Rattle.std.specs.Prelude.{◌≡◌, ℕ, ◌-◌, ◌<◌, ◌≤◌,
 ghost use Rattle.std.specs.Char.{is_ascii_alphabetic, is_ascii_digit};
 ghost use Rattle.std.specs.Iterator.{at_most};
 ghost use Rattle.words.specs.Spelling.{two_byte_marks};
-ghost use Rattle.words.specs.Words.{Found, first_of, name_token, skipped, name_at, number_at, mark_at, longest_at, word_at, next_of};
+ghost use Rattle.words.specs.Words.{Found, first_of, name_token, skipped, name_at, number_at, mark_at, longest_at, next_of};
 ghost use Rattle.words.specs.Records.{token_in, next_in, Advances, Gives};
-ghost use Rattle.words.specs.Inner.{mark_or, IsMark, taken_at, TakesSome};
+ghost use Rattle.words.specs.Inner.{mark_or, IsMark, IsTaken};
 
 use crate::bytes::{run, value};
 use crate::fixed::{keyword, one_byte_mark, two_byte_mark};
@@ -44,8 +44,7 @@ fn skipped(name: &[u8], after: &[u8]) -> usize
 fn read_name(bytes: &[u8]) -> Result<(Token, usize), WordRefusal>
     requires some { 0 < length bytes.now }
     requires letter { is_ascii_alphabetic (slice_index bytes.now 0) ≡ true }
-    ensures is { (p : ℕ) → taken_at p bytes.now result ≡ word_at p bytes.now (name_at bytes.now) }
-    ensures takes { TakesSome (length bytes.now) result }
+    ensures { IsTaken (name_at bytes.now) bytes.now result }
 {
     let length = run(bytes, |b| b.is_ascii_alphanumeric());
     if length > LONGEST_NAME {
@@ -59,8 +58,7 @@ fn read_name(bytes: &[u8]) -> Result<(Token, usize), WordRefusal>
 fn read_number(bytes: &[u8]) -> Result<(Token, usize), WordRefusal>
     requires some { 0 < length bytes.now }
     requires digit { is_ascii_digit (slice_index bytes.now 0) ≡ true }
-    ensures is { (p : ℕ) → taken_at p bytes.now result ≡ word_at p bytes.now (number_at bytes.now) }
-    ensures takes { TakesSome (length bytes.now) result }
+    ensures { IsTaken (number_at bytes.now) bytes.now result }
 {
     let length = run(bytes, |b| b.is_ascii_digit());
     if length > LONGEST_NUMBER {
@@ -83,8 +81,7 @@ fn longer_mark(bytes: &[u8]) -> Option<Token>
 // The mark at the front, the longest that begins there.
 fn read_mark(bytes: &[u8]) -> Result<(Token, usize), WordRefusal>
     requires { 0 < length bytes.now }
-    ensures is { (p : ℕ) → taken_at p bytes.now result ≡ word_at p bytes.now (mark_at bytes.now) }
-    ensures takes { TakesSome (length bytes.now) result }
+    ensures { IsTaken (mark_at bytes.now) bytes.now result }
 {
     if let Some(token) = longer_mark(bytes) {
         return Ok((token, 2));
@@ -99,8 +96,7 @@ fn read_mark(bytes: &[u8]) -> Result<(Token, usize), WordRefusal>
 // The longest word at the front.
 fn read_word(bytes: &[u8]) -> Result<(Token, usize), WordRefusal>
     requires { 0 < length bytes.now }
-    ensures is { (p : ℕ) → taken_at p bytes.now result ≡ word_at p bytes.now (longest_at bytes.now) }
-    ensures takes { TakesSome (length bytes.now) result }
+    ensures { IsTaken (longest_at bytes.now) bytes.now result }
 {
     match bytes[0] {
         b if b.is_ascii_alphabetic() => read_name(bytes),
