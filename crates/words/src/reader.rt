@@ -42,8 +42,7 @@ fn skipped(name: &[u8], after: &[u8]) -> usize
 // The name or reserved word at the front, where a letter stands: its token, and how many bytes it takes with what it
 // skips.
 fn read_name(bytes: &[u8]) -> Result<(Token, usize), WordRefusal>
-    requires some { 0 < length bytes.now }
-    requires letter { is_ascii_alphabetic (slice_index bytes.now 0) ≡ true }
+    requires { is_ascii_alphabetic (slice_index bytes.now 0) ≡ true }
     ensures { IsTaken (name_at bytes.now) bytes.now result }
 {
     let length = run(bytes, |b| b.is_ascii_alphanumeric());
@@ -56,8 +55,7 @@ fn read_name(bytes: &[u8]) -> Result<(Token, usize), WordRefusal>
 
 // The number at the front, where a digit stands.
 fn read_number(bytes: &[u8]) -> Result<(Token, usize), WordRefusal>
-    requires some { 0 < length bytes.now }
-    requires digit { is_ascii_digit (slice_index bytes.now 0) ≡ true }
+    requires { is_ascii_digit (slice_index bytes.now 0) ≡ true }
     ensures { IsTaken (number_at bytes.now) bytes.now result }
 {
     let length = run(bytes, |b| b.is_ascii_digit());

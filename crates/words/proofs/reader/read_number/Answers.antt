@@ -1,4 +1,4 @@
-use Rattle.std.proofs.Common.{rules, arith}
+use Rattle.std.proofs.Common.{rules, refl, arith}
 use Rattle.std.specs.Char.{is_ascii_digit}
 use Rattle.words.proofs.OneWord.{number_read, number_refused, digits_made_of, run_not_empty}
 use Rattle.words.proofs.reader.read_number.Goals as goal
@@ -14,5 +14,5 @@ returns c =
     let bs = c.args.bytes.now in
     let run = c.run-length.ensures.is is_ascii_digit (search rules) in (
       λ p. number_read p bs c.run-length.result run c.value.result c.if-length-gt-LONGEST_NUMBER.false c.value.ensures,
-      (omega (arith, run_not_empty bs c.requires.some is_ascii_digit c.requires.digit, run), c.run-length.ensures.within),
+      (omega (arith, run_not_empty is_ascii_digit bs refl c.requires, run), c.run-length.ensures.within),
     )
