@@ -1,15 +1,15 @@
 -- One word at the front of some bytes: what the reader's answers mean by the definition.
-use Rattle.std.proofs.Common.{◌≡◌, ℕ, ◌+◌, ◌<◌, ◌≤◌, Bool, true, false, cond, eqb, ◌≢◌, List, [], ◌∷◌, length, get_or, take, drop, codes, Ok, sym, refl, ap, ◌∙◌, one-add, arith, length-take}
+use Rattle.std.proofs.Common.{◌≡◌, ℕ, ◌+◌, ◌<◌, ◌≤◌, Bool, true, false, cond, eqb, ◌≢◌, List, [], ◌∷◌, length, get_or, take, drop, codes, Ok, sym, refl, ap, ◌∙◌, one-add, arith, length-take, true≢false}
 use Rattle.std.specs.List.{prefix_len, AllByRecursion as All}
 use Rattle.std.specs.Char.{is_ascii_digit, is_ascii_alphanumeric, is_ascii_alphabetic}
-use Rattle.std.proofs.lemmas.List.{at_drop_more, length-take-le}
-use Rattle.std.proofs.lemmas.Bool.{lt-leb, le-leb, cond_both, ne_eqb, cond-true, cond-false}
-use Rattle.std.proofs.lemmas.List.Sums.{prefix_len-drop_yes, prefix_len-le-length}
+use Rattle.std.proofs.lemmas.List.{length-take-le}
+use Rattle.std.proofs.lemmas.Bool.{lt-leb, le-leb, cond_both, ne_eqb}
+use Rattle.std.proofs.lemmas.List.Sums.{prefix_len-le-length}
 use Rattle.std.proofs.lemmas.Bool.Decides.{nat_tests}
 use Rattle.words.specs.Token.{Token, name, number}
 use Rattle.words.specs.Spelling.{Fixed, two_byte_marks, one_byte_marks, reserved_words, MadeOf, not_semicolon, value_of}
 use Rattle.std.specs.Str.{bytes_eq}
-use Rattle.words.specs.Words.{found, nothing, exactly, first_of, mark_at, name_at, number_at, longest_at, name_token, short, skipped, word_at, next_word, next_refused}
+use Rattle.words.specs.Words.{found, nothing, exactly, first_of, mark_at, name_at, number_at, name_token, short, skipped, word_at, next_word, next_refused}
 use Rattle.words.specs.Records.{token_in}
 use Rattle.words.specs.Inner.{IsMark, taken_at}
 use Rattle.words.specs.declared.token.Token.{Token as TokenRecord}
@@ -129,35 +129,10 @@ module _ (p : ℕ) (bs : List ℕ) where
     pub number_refused : 9 < n → next_refused WordTooLong p ≡ word_at p bs (number_at bs)
     number_refused lt = let e = lt-leb n 9 lt in sym (rw e) ∙ number_here
 
--- The first byte decides what the longest word is.
-module _ (bs : List ℕ) (some : 0 < length bs) where
-  abbrev first : ℕ
-  first = get_or bs 0 0
-
-  whole : bs ≡ first ∷ drop 1 bs
-  whole = at_drop_more (λ z. z) bs 0 0 some
-
-  by_first : longest_at bs ≡ cond (is_ascii_alphabetic first) (name_at bs) (cond (is_ascii_digit first) (number_at bs) (mark_at bs))
-  by_first = ap longest_at whole ∙ ap (λ z. cond (is_ascii_alphabetic first) (name_at z) (cond (is_ascii_digit first) (number_at z) (mark_at z))) (sym whole)
-
-  pub letter_to_longest_is_name : is_ascii_alphabetic first ≡ true → longest_at bs ≡ name_at bs
-  letter_to_longest_is_name l = by_first ∙ cond-true (is_ascii_alphabetic first) (name_at bs) (cond (is_ascii_digit first) (number_at bs) (mark_at bs)) l
-
-  pub digit_to_longest_is_number : is_ascii_alphabetic first ≡ false → is_ascii_digit first ≡ true → longest_at bs ≡ number_at bs
-  digit_to_longest_is_number l d =
-      by_first
-      ∙ (cond-false (is_ascii_alphabetic first) (name_at bs) (cond (is_ascii_digit first) (number_at bs) (mark_at bs)) l
-      ∙ cond-true (is_ascii_digit first) (number_at bs) (mark_at bs) d)
-
-  pub other_to_longest_is_mark : is_ascii_alphabetic first ≡ false → is_ascii_digit first ≡ false → longest_at bs ≡ mark_at bs
-  other_to_longest_is_mark l d =
-      by_first
-      ∙ (cond-false (is_ascii_alphabetic first) (name_at bs) (cond (is_ascii_digit first) (number_at bs) (mark_at bs)) l
-      ∙ cond-false (is_ascii_digit first) (number_at bs) (mark_at bs) d)
-
-  -- A run of a class that its first byte is of is not empty.
-  pub run_not_empty : (p : ℕ → Bool) → p first ≡ true → 0 < prefix_len p bs
-  run_not_empty p e = omega (arith, prefix_len-drop_yes p bs 0 0 some e)
+-- A run of a class that its first byte is of is not empty.
+pub run_not_empty : (p : ℕ → Bool) (bs : List ℕ) → p 0 ≡ false → p (get_or bs 0 0) ≡ true → 0 < prefix_len p bs
+run_not_empty p [] zero_fails e = absurd (true≢false (sym e ∙ zero_fails))
+run_not_empty p (b ∷ bs) zero_fails e = rw e (omega arith)
 
 -- The two bytes at the front.
 pub two_bytes : (bs : List ℕ) → 2 ≤ length bs → bs ≡ get_or bs 0 0 ∷ (get_or bs 1 0 ∷ drop 2 bs)

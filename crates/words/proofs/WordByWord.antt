@@ -1,5 +1,6 @@
 -- Reading a text word by word: asking for the next word again and again gives exactly the words of the text.
--- A loop over `next_word` keeps `SoFar`: the words read and what the definition gives from the place reached make up the whole.
+-- A loop over `next_word` keeps `SoFar`: the words read and what the definition gives from the place reached make up
+-- the whole.
 use Rattle.std.proofs.Common.{◌≡◌, ℕ, zero, suc, ◌-◌, ◌<◌, ◌≤◌, min, ltb, List, [], ◌∷◌, ◌++◌, length, drop, sym, refl, ap, ◌∙◌, append_assoc, append-nil, arith}
 use Rattle.std.proofs.lemmas.List.{length_push}
 use Rattle.std.proofs.lemmas.Bool.{lt-ltb, le-ltb, cond-true, cond-false}

@@ -1,12 +1,12 @@
--- What the contracts of the crate's inner functions say: fixed words looked up, and a word at the front of some bytes. No
--- public contract cites these.
-use Rattle.std.specs.Prelude.{ℕ, ◌+◌, ◌<◌, ◌≤◌, List, [], drop, Some, None, Option, Ok, Err, Result}
+-- What the contracts of the crate's inner functions say: fixed words looked up, and a word at the front of some bytes.
+-- No public contract cites these.
+use Rattle.std.specs.Prelude.{◌≡◌, ℕ, ◌+◌, ◌<◌, ◌≤◌, List, [], length, drop, Some, None, Option, Ok, Err, Result}
 use Rattle.words.specs.declared.token.Token.{Token as TokenRecord}
 use Rattle.words.specs.declared.token.Token.TheVariants.{Name, Number, Keyword, Mark, Sign, Scaling, Relation}
 use Rattle.words.specs.declared.token.Keyword.{Keyword as KeywordRecord}
 use Rattle.words.specs.declared.refusal.WordRefusal.{WordRefusal}
 use Rattle.words.specs.Token.{Token, keyword}
-use Rattle.words.specs.Words.{Found, found, Next, next_word, next_refused}
+use Rattle.words.specs.Words.{Found, found, Next, next_word, next_refused, word_at}
 use Rattle.words.specs.Records.{token_in}
 
 -- A reserved word or mark that was looked up, else what is given.
@@ -38,3 +38,7 @@ taken_at p bs (Err e) = next_refused e p
 abbrev pub TakesSome : ℕ → Result (TokenRecord × ℕ) WordRefusal → Type 0
 TakesSome size (Ok r) = (0 < r.1) × (r.1 ≤ size)
 TakesSome size (Err e) = Unit {0}
+
+-- The result is the word that the definition finds at the front of the bytes bs, wherever they stand, and takes some.
+abbrev pub IsTaken : Found → List ℕ → Result (TokenRecord × ℕ) WordRefusal → Type 0
+IsTaken word bs result = ((p : ℕ) → taken_at p bs result ≡ word_at p bs word) × TakesSome (length bs) result

@@ -1,6 +1,6 @@
--- The words of a text as rules: what spells a word, which word is cut, what a comment skips, and where a text is refused.
--- A reader has to believe these rules and the tables of specs/Spelling.antt. The law at the end says that they give every
--- text exactly one result, and that it is the one specs/Words.antt computes.
+-- The words of a text as rules: what spells a word, which word is cut, what a comment skips, and where a text is
+-- refused. A reader has to believe these rules and the tables of specs/Spelling.antt. The law at the end says that they
+-- give every text exactly one result, and that it is the one specs/Words.antt computes.
 use Rattle.std.specs.Prelude.{◌≡◌, ℕ, suc, ◌+◌, ◌<◌, ◌≤◌, true, false, ◌⊎◌, List, [], ◌∷◌, ◌++◌, length, drop, codes, ◌≢◌}
 use Rattle.std.specs.List.{AllByRecursion}
 use Rattle.std.specs.Char.{is_ascii_digit, is_ascii_alphanumeric, is_ascii_alphabetic}
@@ -53,7 +53,8 @@ pub data Skips : List ℕ → List ℕ → List ℕ → Type 0 where
   comment_text : {s skip after : List ℕ} → s ≡ codes "comment" → MadeOf not_semicolon skip → Stops after → Skips s skip after
   no_text : {s after : List ℕ} → (s ≢ codes "comment") → Skips s [] after
 
--- Cuts p bs ws q rest: the bytes bs, which stand at place p, are cut into the words ws up to place q, where `rest` is left.
+-- Cuts p bs ws q rest: the bytes bs, which stand at place p, are cut into the words ws up to place q, where `rest` is
+-- left.
 -- A blank or line end is passed over; else the longest word is cut, with what it skips.
 pub data Cuts : ℕ → List ℕ → List Word → ℕ → List ℕ → Type 0 where
   here : {p : ℕ} {bs : List ℕ} → Cuts p bs [] p bs

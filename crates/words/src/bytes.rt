@@ -22,7 +22,7 @@ pub(crate) fn value(digits: &[u8]) -> u32
 {
     let mut v = 0;
     for b in digits {
-        v = v * 10 + (*b - b'0') as u32;
+        v = v * 10 + u32::from(*b - b'0');
     }
     v
 }

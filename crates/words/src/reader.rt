@@ -4,9 +4,9 @@ ghost use Rattle.std.specs.Prelude.{◌≡◌, ℕ, ◌-◌, ◌<◌, ◌≤◌,
 ghost use Rattle.std.specs.Char.{is_ascii_alphabetic, is_ascii_digit};
 ghost use Rattle.std.specs.Iterator.{at_most};
 ghost use Rattle.words.specs.Spelling.{two_byte_marks};
-ghost use Rattle.words.specs.Words.{Found, first_of, name_token, skipped, name_at, number_at, mark_at, longest_at, word_at, next_of};
+ghost use Rattle.words.specs.Words.{Found, first_of, name_token, skipped, name_at, number_at, mark_at, longest_at, next_of};
 ghost use Rattle.words.specs.Records.{token_in, next_in, Advances, Gives};
-ghost use Rattle.words.specs.Inner.{mark_or, IsMark, taken_at, TakesSome};
+ghost use Rattle.words.specs.Inner.{mark_or, IsMark, IsTaken};
 
 use crate::bytes::{run, value};
 use crate::fixed::{keyword, one_byte_mark, two_byte_mark};
@@ -39,12 +39,11 @@ fn skipped(name: &[u8], after: &[u8]) -> usize
     }
 }
 
-// The name or reserved word at the front, where a letter stands: its token, and how many bytes it takes with what it skips.
+// The name or reserved word at the front, where a letter stands: its token, and how many bytes it takes with what it
+// skips.
 fn read_name(bytes: &[u8]) -> Result<(Token, usize), WordRefusal>
-    requires some { 0 < length bytes.now }
-    requires letter { is_ascii_alphabetic (slice_index bytes.now 0) ≡ true }
-    ensures is { (p : ℕ) → taken_at p bytes.now result ≡ word_at p bytes.now (name_at bytes.now) }
-    ensures takes { TakesSome (length bytes.now) result }
+    requires { is_ascii_alphabetic (slice_index bytes.now 0) ≡ true }
+    ensures { IsTaken (name_at bytes.now) bytes.now result }
 {
     let length = run(bytes, |b| b.is_ascii_alphanumeric());
     if length > LONGEST_NAME {
@@ -56,10 +55,8 @@ fn read_name(bytes: &[u8]) -> Result<(Token, usize), WordRefusal>
 
 // The number at the front, where a digit stands.
 fn read_number(bytes: &[u8]) -> Result<(Token, usize), WordRefusal>
-    requires some { 0 < length bytes.now }
-    requires digit { is_ascii_digit (slice_index bytes.now 0) ≡ true }
-    ensures is { (p : ℕ) → taken_at p bytes.now result ≡ word_at p bytes.now (number_at bytes.now) }
-    ensures takes { TakesSome (length bytes.now) result }
+    requires { is_ascii_digit (slice_index bytes.now 0) ≡ true }
+    ensures { IsTaken (number_at bytes.now) bytes.now result }
 {
     let length = run(bytes, |b| b.is_ascii_digit());
     if length > LONGEST_NUMBER {
@@ -82,13 +79,12 @@ fn longer_mark(bytes: &[u8]) -> Option<Token>
 // The mark at the front, the longest that begins there.
 fn read_mark(bytes: &[u8]) -> Result<(Token, usize), WordRefusal>
     requires { 0 < length bytes.now }
-    ensures is { (p : ℕ) → taken_at p bytes.now result ≡ word_at p bytes.now (mark_at bytes.now) }
-    ensures takes { TakesSome (length bytes.now) result }
+    ensures { IsTaken (mark_at bytes.now) bytes.now result }
 {
     if let Some(token) = longer_mark(bytes) {
         return Ok((token, 2));
     }
-    // no `ok_or` with `?`: the check does not see through it here which refusal comes
+    // a `match`: behind `ok_or` and `?` the check does not find which refusal comes
     match one_byte_mark(bytes[0]) {
         Some(token) => Ok((token, 1)),
         None => Err(WordRefusal::NoWord),
@@ -98,8 +94,7 @@ fn read_mark(bytes: &[u8]) -> Result<(Token, usize), WordRefusal>
 // The longest word at the front.
 fn read_word(bytes: &[u8]) -> Result<(Token, usize), WordRefusal>
     requires { 0 < length bytes.now }
-    ensures is { (p : ℕ) → taken_at p bytes.now result ≡ word_at p bytes.now (longest_at bytes.now) }
-    ensures takes { TakesSome (length bytes.now) result }
+    ensures { IsTaken (longest_at bytes.now) bytes.now result }
 {
     match bytes[0] {
         b if b.is_ascii_alphabetic() => read_name(bytes),
@@ -121,7 +116,7 @@ pub fn next_word(text: &[u8], at: usize) -> Result<Option<(Word, usize)>, Refusa
     if bytes.is_empty() {
         return Ok(None);
     }
-    // no `map_err` with `?`, for the same reason
+    // a `match`, as in `read_mark`
     match read_word(bytes) {
         Ok((token, taken)) => Ok(Some((Word { token, place }, place + taken))),
         Err(reason) => Err(Refusal { reason, place }),

@@ -40,6 +40,7 @@ pub fn cut_words<S: WordSlot>(text: &[u8], table: &mut [S]) -> Result<usize, Ref
         });
     }
     let most = MOST_WORDS.min(table.len());
+    // `count` is the answer too, and the table may be longer than the text's words
     let mut count = 0;
     for word in Words::of(text) {
         let word = word?;

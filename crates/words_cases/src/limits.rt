@@ -290,3 +290,12 @@ fn large_texts(rt: HostRuntime) -> Result<(), Fail> {
     }
     Ok(())
 }
+
+// The number that users see of each reason.
+#[test]
+fn numbers(rt: HostRuntime) {
+    assert_eq!(rt; WordRefusal::TextTooLong.number(), 1);
+    assert_eq!(rt; WordRefusal::NoWord.number(), 2);
+    assert_eq!(rt; WordRefusal::WordTooLong.number(), 3);
+    assert_eq!(rt; WordRefusal::TooManyWords.number(), 4);
+}

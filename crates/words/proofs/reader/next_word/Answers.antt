@@ -13,11 +13,11 @@ returns-in-Ok-clause-is c =
     let t = c.args.text.now in
     let place = c.args.at + c.run.result in
     word_to_next t c.args.at c.run.result (c.run.ensures.is blank (search rules) ∙ ap (prefix_len blank) (part_to_end t c.args.at)) (search rules)
-    _ (part_to_end t place) c.in-Ok.token c.in-Ok.taken (c.in-Ok.ensures.is place)
+    _ (part_to_end t place) c.in-Ok.token c.in-Ok.taken (c.in-Ok.ensures.0 place)
 
 pub returns-in-Err-clause-is : goal.returns-in-Err-clause-is
 returns-in-Err-clause-is c =
     let t = c.args.text.now in
     let place = c.args.at + c.run.result in
     refusal_to_next t c.args.at c.run.result (c.run.ensures.is blank (search rules) ∙ ap (prefix_len blank) (part_to_end t c.args.at)) (search rules)
-    _ (part_to_end t place) c.in-Err.reason (c.in-Err.ensures.is place)
+    _ (part_to_end t place) c.in-Err.reason (c.in-Err.ensures.0 place)
