@@ -39,6 +39,7 @@ fn role_at(operations: &[u8], place: u64) -> Option<Role>
 fn may_land(role: Option<Role>, further: bool) -> bool
     ensures { result ≡ may_land role further }
 {
+    // a `match`, since there are three answers
     match role {
         Some(Role::Step) => true,
         Some(Role::Label | Role::End) => further,
