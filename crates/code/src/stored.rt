@@ -1,8 +1,8 @@
 // The stored form of code: n, v, m and D in four bytes each, the operations, the operands in eight bytes each,
 // every number with its low byte first.
-ghost use Rattle.std.specs.Prelude.{◌≡◌, ℕ, ◌+◌, ◌*◌, ◌<◌, ◌≤◌, ◌++◌, length, map, take, drop, IfOk};
+ghost use Rattle.std.specs.Prelude.{◌≡◌, ◌+◌, ◌*◌, ◌<◌, ◌≤◌, ◌++◌, length, map, take, drop, IfOk};
 ghost use Rattle.std.specs.List.{flat_map};
-ghost use Rattle.code.specs.Files.{Reloads, Restores, answer_of, bytes_of, file, file_length, header, load as loading, number_of, sizes_in, store as storing};
+ghost use Rattle.code.specs.Files.{Reloads, Restores, answer_of, bytes_of, file, header, load as loading, number_of, sizes_in, store as storing};
 
 use crate::check::{Lent, are_lent_sizes_ok};
 use crate::refusals::Refusal;
