@@ -1,6 +1,6 @@
 -- The descriptor of an array's cells, as one number: first cell + 4,096 × count + 16,777,216 × (low bound + 10,000).
 -- The low bound, which may be negative, is held as the number that is 10,000 more.
-use Rattle.std.specs.Prelude.{ℕ, ◌+◌, ◌*◌, ◌/◌, ◌%◌, ◌^◌, Bool, cond, ◌&&◌, ℤ, pos, ◌-ℤ◌, Some, None, Option, nat_le, nat_lt}
+use Rattle.std.specs.Prelude.{◌≡◌, ℕ, ◌+◌, ◌*◌, ◌/◌, ◌%◌, ◌^◌, Bool, cond, ◌&&◌, ℤ, pos, ◌-ℤ◌, Some, None, Option, nat_le, nat_lt}
 use Rattle.code.specs.declared.descriptor.Descriptor.{Descriptor}
 
 -- The three parts of a number.
@@ -16,6 +16,11 @@ packable d = nat_lt d.first 4096 && (nat_lt d.count 4096 && nat_lt d.biased_low 
 
 abbrev pub packed : Descriptor → Option ℕ
 packed d = cond (packable d) (Some (packed_number d)) None
+
+-- What the conversion of a number gives: its three parts, of which it is the number.
+pub record Unpacks (x : ℕ) (d : Descriptor) : Type 0 where
+  pub value : d ≡ unpacked x
+  pub undone : packed d ≡ Some x
 
 -- A descriptor that an operation may have: at least one cell, all of them below m, a low bound within ±9,999.
 abbrev pub range_ok : ℕ → Descriptor → Bool

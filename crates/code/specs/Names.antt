@@ -59,6 +59,7 @@ abbrev pub refusal_line : ℕ → Option ℕ → List ℕ → List ℕ
 refusal_line k None why = codes "refused " ++ (decimal k ++ (codes ": " ++ why))
 refusal_line k (Some place) why = codes "refused " ++ (decimal k ++ (codes " at operation " ++ (decimal place ++ (codes ": " ++ why))))
 
+-- The same of a refusal.
 abbrev pub refusal_text : Refusal → List ℕ
 refusal_text e = refusal_line (number e) (told_at e) (reason e)
 

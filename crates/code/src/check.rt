@@ -1,8 +1,8 @@
 // The check of code, rule by rule.
-ghost use Rattle.std.specs.Prelude.{◌≡◌, ℕ, ◌+◌, ◌<◌, ◌≤◌, length, Some, MatchResult, is_ok};
+ghost use Rattle.std.specs.Prelude.{◌≡◌, ◌+◌, ◌<◌, ◌≤◌, length, Some, MatchResult, is_ok};
 ghost use Rattle.code.specs.Answers.{ruling_of, told_at, verdict_of};
 ghost use Rattle.code.specs.Operations.{operand, role};
-ghost use Rattle.code.specs.Check.{check_from, closed, closes, depth_ok, is_jump_table, leading_jumps, last_ok, lent_ok, may_land, opens, operand_ok, place_ok, ruling, target_ok};
+ghost use Rattle.code.specs.Check.{check_from, closed, depth_ok, is_jump_table, leading_jumps, last_ok, lent_ok, may_land, opens, operand_ok, place_ok, ruling, target_ok};
 ghost use Rattle.code.specs.CheckedCode.{Checks};
 ghost use Rattle.code.specs.Codes.{Code, code_of, role_at};
 
@@ -39,6 +39,7 @@ fn role_at(operations: &[u8], place: u64) -> Option<Role>
 fn may_land(role: Option<Role>, further: bool) -> bool
     ensures { result ≡ may_land role further }
 {
+    // a `match`, since there are three answers
     match role {
         Some(Role::Step) => true,
         Some(Role::Label | Role::End) => further,
@@ -90,9 +91,9 @@ impl Site<'_> {
             Operand::Unused => x == 0,
             Operand::TextPlace => x <= 8_191,
             Operand::Constant => x <= 999_999_999,
-            Operand::Cell => x < self.sizes.cells as u64,
-            Operand::CellRange => Descriptor::unpack(x).lies_below(self.sizes.cells),
-            Operand::Target => x < self.sizes.operations as u64,
+            Operand::Cell => x < u64::from(self.sizes.cells),
+            Operand::CellRange => Descriptor::from(x).lies_below(self.sizes.cells),
+            Operand::Target => x < u64::from(self.sizes.operations),
             Operand::RowCount => x >= 1,
         }
     }
@@ -198,8 +199,8 @@ impl<'a> Lent<'a> {
         })
     }
 
-    // 22 to 26: the operations in their order, with the figures on the stack counted along. One walk by place, since each
-    // rule speaks of an operation's place in the caller's two arrays.
+    // 22 to 26: the operations in their order, with the figures on the stack counted along. Operands by place: over an
+    // `enumerate` of a `zip` the check does not find of which place a pair is.
     fn check(&self) -> Result<(), Refusal>
         ensures { verdict_of result ≡ check_from (record { sizes = self.now.sizes; operations = self.now.operations.now; operands = self.now.operands.now }) self.now.operations.now 0 0 }
     {

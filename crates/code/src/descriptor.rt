@@ -1,6 +1,6 @@
 // The descriptor of an array's cells, which an operand holds as one number.
-ghost use Rattle.std.specs.Prelude.{◌≡◌, IfSome, Some};
-ghost use Rattle.code.specs.Descriptors.{low_bound, packed, range_ok, unpacked};
+ghost use Rattle.std.specs.Prelude.{◌≡◌, IfSome};
+ghost use Rattle.code.specs.Descriptors.{Unpacks, low_bound, packed, range_ok, unpacked};
 
 // The cells `first` to `first + count - 1`; the low bound is held as `biased_low`, 10,000 more.
 #[derive(Clone, Copy)]
@@ -10,19 +10,20 @@ pub struct Descriptor {
     pub biased_low: u64,
 }
 
-impl Descriptor {
-    // The three parts of an operand. Named `unpack`, and `pack` back, since each clause `undone` speaks of the other.
-    pub fn unpack(operand: u64) -> Descriptor
-        ensures value { result ≡ unpacked operand }
-        ensures undone { packed result ≡ Some operand }
-    {
+// The three parts of an operand; `pack` gives the operand back.
+impl From<u64> for Descriptor {
+    ghost from_gives = { Unpacks };
+
+    fn from(operand: u64) -> Descriptor {
         Descriptor {
             first: (operand % 4_096) as usize,
             count: (operand / 4_096 % 4_096) as usize,
             biased_low: operand / 16_777_216,
         }
     }
+}
 
+impl Descriptor {
     // The operand of the three parts, if they have one.
     pub fn pack(self) -> Option<u64>
         ensures value { result ≡ packed self }
@@ -43,8 +44,7 @@ impl Descriptor {
         self.count >= 1
             && self.count <= cells
             && self.first <= cells - self.count
-            && self.biased_low >= 1
-            && self.biased_low <= 19_999
+            && self.low_bound().is_some()
     }
 
     // The low bound, if it is within 9,999 of 0.

@@ -114,7 +114,7 @@ pub enum Role {
 }
 
 // A byte that is no operation's number.
-#[derive(Clone, Copy, PartialEq, Debug)]
+#[derive(Clone, Copy, PartialEq, Eq, Debug)]
 pub struct UnknownOperation(pub u8);
 
 impl fmt::Display for UnknownOperation {
@@ -183,6 +183,7 @@ impl fmt::Display for Operation {
 }
 
 impl Operation {
+    // Its number, the byte that stands for it.
     #[tactic(auto, unfolding(crate::specs::Operations::operation))]
     pub fn number(self) -> u8
         ensures value { result ≡ number self }

@@ -6,7 +6,7 @@ ghost use Rattle.code.specs.Names.{reason, refusal_text};
 use std::error::Error;
 use std::fmt;
 
-#[derive(Clone, Copy, PartialEq, Debug)]
+#[derive(Clone, Copy, PartialEq, Eq, Debug)]
 pub enum Refusal {
     // 21: sizes beyond their limits, or arrays with fewer than n entries
     BadSizes,
@@ -23,6 +23,7 @@ pub enum Refusal {
 }
 
 impl Refusal {
+    // The number under which users know it.
     pub fn number(self) -> u8
         ensures { result ≡ number self }
     {

@@ -4,7 +4,7 @@ ghost use Rattle.code.specs.Names.{sizes_text};
 
 use std::fmt;
 
-#[derive(Clone, Copy, PartialEq, Debug)]
+#[derive(Clone, Copy, PartialEq, Eq, Debug)]
 pub struct Sizes {
     // n: operations, from 1 to 4,096
     pub operations: u32,

@@ -1,8 +1,8 @@
 // The stored form of code: n, v, m and D in four bytes each, the operations, the operands in eight bytes each,
 // every number with its low byte first.
-ghost use Rattle.std.specs.Prelude.{◌≡◌, ℕ, ◌+◌, ◌*◌, ◌<◌, ◌≤◌, ◌++◌, length, map, take, drop, IfOk};
+ghost use Rattle.std.specs.Prelude.{◌≡◌, ◌+◌, ◌*◌, ◌<◌, ◌≤◌, ◌++◌, length, map, take, drop, IfOk};
 ghost use Rattle.std.specs.List.{flat_map};
-ghost use Rattle.code.specs.Files.{Reloads, Restores, answer_of, bytes_of, file, file_length, header, load as loading, number_of, sizes_in, store as storing};
+ghost use Rattle.code.specs.Files.{Reloads, Restores, answer_of, bytes_of, file, header, load as loading, number_of, sizes_in, store as storing};
 
 use crate::check::{Lent, are_lent_sizes_ok};
 use crate::refusals::Refusal;
@@ -31,7 +31,7 @@ fn write_header(buffer: &mut [u8], sizes: Sizes)
     write(buffer, 12, &sizes.depth.to_le_bytes());
 }
 
-// The words are counted off, since nothing is known of what a buffer holds after a walk over its `as_chunks_mut`.
+// The operands are written by place: nothing is known of what a buffer holds after a walk over its `as_chunks_mut`.
 fn write_operands(buffer: &mut [u8], at: usize, operands: &[u64])
     requires { at + 8 * length operands.now ≤ length buffer.old }
     ensures front { take (at + 8 * length operands.now) buffer.new ≡ take at buffer.old ++ flat_map (bytes_of 8) operands.now }
@@ -55,7 +55,8 @@ fn read_sizes(bytes: &[u8]) -> Sizes
     }
 }
 
-// Reads the words into the front of the array, by place: nothing is known of what it holds after a walk by `iter_mut().zip(..)`.
+// Reads the words into the front of the array, by place: nothing is known of what it holds after a walk by
+// `iter_mut().zip(..)`.
 fn read_operands(words: &[[u8; 8]], operands: &mut [u64])
     requires { length words.now ≤ length operands.old }
     ensures { operands.new ≡ map number_of words.now ++ drop (length words.now) operands.old }

@@ -8,14 +8,12 @@ use Rattle.machine.specs.Runs.{Advanced, Progress, Run, advance_after, advance_a
 use Rattle.machine.specs.Steps.{step}
 use Rattle.machine.specs.Views.{memory}
 
-pub some_mapped : {A B : Type 0} (f : A → B) (o : Option A) → is_some (option_map f o) ≡ is_some o
-some_mapped f None = refl
-some_mapped f (Some x) = refl
-
+-- Where what is mapped holds nothing, it is nothing.
 pub none_mapped : {A B : Type 0} (f : A → B) (o : Option A) → is_some (option_map f o) ≡ false → option_map f o ≡ None
 none_mapped f None e = refl
 none_mapped f (Some x) e = let z : ◌≡◌ {A = ℕ} 0 1 = cc in absurd (omega arith)
 
+-- The run of this progress over this memory.
 abbrev run_with : {V : Type 0} → Progress → Memory V → Run V
 run_with p m = record { progress = p; memory = m }
 

@@ -23,7 +23,7 @@ use Rattle.machine.specs.Faults.{fault_of}
 use Rattle.machine.specs.Fits.{Ends, Fits, Follows, BranchOperand, operations_left, stands_at, calculation_takes, transfer_takes, transfer_leaves, TransferOperand, branch_takes}
 use Rattle.machine.specs.Instructions.{instruction}
 use Rattle.machine.specs.Machine
-use Rattle.machine.specs.Machine.{Attempt, gives, fails, lacks, Lack, ◌>>=◌, calculation, loaded, found, stored, element, element_at, from_low, handed, calculated, transferred, gone, taken_into, posted_in, Memory, State, ResultOf, goes, faults, misses, effect, settled, of_one, of_two}
+use Rattle.machine.specs.Machine.{Attempt, gives, fails, lacks, ◌>>=◌, calculation, loaded, found, stored, element, element_at, from_low, handed, calculated, transferred, gone, taken_into, posted_in, Memory, State, ResultOf, goes, faults, misses, effect, settled, of_one, of_two}
 use Rattle.machine.specs.Steps.{ends_step_at, performed, run_to_end, step}
 use Rattle.machine.proofs.Facts.{Facts, facts_at, follows_on}
 use Rattle.machine.proofs.Performing.{performed_as, branch_low, branch_names, follows_branch}

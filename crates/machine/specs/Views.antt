@@ -22,6 +22,7 @@ memory means posted cells book roll = record { cells = map means cells; book = m
 abbrev pub laid : {F V : Type 0} → (F → V) → OperandStack F → List V
 laid means s = operands means s.depth s.figures.now
 
+-- The definition's state, by the machine's state and stack.
 abbrev pub state : {R F V : Type 0} → (F → V) → (R → Contents F) → OperandStack F → Held R F → State V
 state means holds stack s = record {
   place = s.place;

@@ -7,7 +7,6 @@ ghost use Rattle.machine.specs.Refusals.{answer};
 ghost use Rattle.machine.specs.RunViews.{progress_of, report_of, run_of};
 ghost use Rattle.machine.specs.Runs.{Advanced, Asked, at_halt, ended, report, stepped};
 
-use crate::fault::RunFault;
 use crate::operands::OperandStack;
 use crate::prepare::{ask_cell, has_all_cells};
 use crate::refusal::Refusal;
@@ -34,7 +33,7 @@ impl Running<'_> {
         self.fault.is_some() || self.is_at_halt()
     }
 
-    // The next step of a run that has not ended.
+    // The next step of a run that has not ended. What the caller lends comes with each call.
     fn make_step<R: Roll>(
         &mut self,
         cells: &mut [R::Figure],
@@ -103,7 +102,7 @@ impl Running<'_> {
         if book.len() < self.posted {
             return Err(Refusal::ShortBook);
         }
-        // the run counts its steps itself, since one that faults is none
+        // the run's own count tells the steps made: one that faults is none
         let before = self.count;
         for made in 0..steps {
             if self.has_ended() {
@@ -114,7 +113,7 @@ impl Running<'_> {
         Ok(self.count - before)
     }
 
-    // The figure of a named cell.
+    // The figure of a named cell. As the ready run answers it.
     pub fn ask<F: Figures>(&self, cells: &[F], cell: usize) -> Result<F, Refusal>
         ensures { Asked (code_in self.now.code) (map F.means cells.now) cell (answer F.means result) }
     {
@@ -127,13 +126,8 @@ impl Running<'_> {
     {
         let standing = match self.fault {
             Some(fault) => Standing::Fault(fault, operand_at(&self.code, self.place)),
-            None => {
-                if self.is_at_halt() {
-                    Standing::End
-                } else {
-                    Standing::Going
-                }
-            }
+            None if self.is_at_halt() => Standing::End,
+            None => Standing::Going,
         };
         Status {
             count: self.count,

@@ -32,7 +32,7 @@ fn table_row<F: Figures>(numbers: &[u64], table: usize, figure: F, on: usize) ->
 impl<F: Figures> OperandStack<'_, F> {
     ghost use Rattle.machine.specs.Views.{laid};
 
-    // Where control goes from a jump at a place.
+    // Where control goes from a jump at a place. Inlined as `calculate` is.
     #[inline(always)]
     pub(crate) fn go(
         &mut self,

@@ -78,7 +78,7 @@ pub(crate) fn element<F: Figures>(operand: u64, subscript: F) -> Result<usize, R
 impl<F: Figures> OperandStack<'_, F> {
     ghost use Rattle.machine.specs.Views.{laid};
 
-    // Work on the stack alone. Within its caller the depth stays in a register.
+    // Work on the stack alone. Inlined, so that its caller keeps the depth in a register.
     #[inline(always)]
     pub(crate) fn calculate(
         &mut self,

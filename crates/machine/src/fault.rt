@@ -87,6 +87,7 @@ impl fmt::Display for RunFault {
 
 impl Error for RunFault {}
 
+// The sentences of the faults of the crates below, which know them by number alone.
 fn calculation_reason(fault: Fault) -> &'static str
     ensures { result.now ≡ calculation_reason fault }
 {

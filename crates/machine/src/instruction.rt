@@ -1,4 +1,5 @@
 // What an operation does, in the form in which the machine carries it out.
+// Enums and no closures: an operation is a byte of the caller's code, and the definition has the same cases.
 
 ghost use Rattle.std.specs.Prelude.{◌≡◌};
 ghost use Rattle.machine.specs.Instructions.{instruction};
@@ -68,7 +69,7 @@ pub enum Instruction {
     Calculate(Calculation),
     Transfer(Transfer),
     Go(Branch),
-    // takes a figure from the roll, which is rounded or as it is
+    // takes a figure from the roll, rounded where so told; a flag, as the definition has it
     Take(bool),
     Post,
 }

@@ -7,6 +7,7 @@ ghost use Rattle.machine.specs.Machine.{gives, stored};
 use figures::kind::Figures;
 
 // The operand stack: the first `depth` figures of an array that the caller lends, the top last.
+// That the array keeps its length is said by each method: it is of two moments, which no ghost field sees.
 #[derive(Drop)]
 pub struct OperandStack<'m, F> {
     pub(crate) figures: &'m mut [F],

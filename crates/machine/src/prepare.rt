@@ -44,7 +44,8 @@ pub fn prepare<'a, F: Figures>(
     Ok(())
 }
 
-// Sets every cell to of(0). A loop, since `fill` asks that the copy of a figure cannot fail, which no kind promises.
+// Sets every cell to of(0). A loop, since `fill` asks that the copy of a figure cannot fail, which the trait of kinds
+// does not promise.
 fn fill_with_zero<F: Figures>(cells: &mut [F])
     ensures { map F.means cells.new ≡ filled (length cells.old) (map F.means cells.old) (F.kind.of 0) }
 {

@@ -2,8 +2,9 @@
 
 use rolls::roll::Roll;
 
-// The place of the operation that comes next, and the cells, the book with so many figures posted and the roll, which the
-// caller lends. No struct that holds an array stands in it: what the arrays then hold at the end would not be known.
+// The place of the operation that comes next, and the cells, the book with so many figures posted and the roll, which
+// the caller lends. No struct that holds an array stands in it: what the arrays then hold at the end would not be known.
+// After a fault it no longer stands where the check counted, so that `Stands` is no ghost field.
 #[derive(Drop)]
 pub struct State<'c, 'b, 'r, R: Roll> {
     pub(crate) place: usize,

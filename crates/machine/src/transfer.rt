@@ -17,7 +17,7 @@ use rolls::roll::Roll;
 impl<F: Figures> OperandStack<'_, F> {
     ghost use Rattle.machine.specs.Views.{laid};
 
-    // Work on the stack and the cells.
+    // Work on the stack and the cells. Inlined as `calculate` is.
     #[inline(always)]
     pub(crate) fn transfer(
         &mut self,

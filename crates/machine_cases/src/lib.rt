@@ -1,6 +1,7 @@
 #![tactic(auto)]
 
-// Cases of the machine, run on hand-assembled code: every operation, every fault, both kinds, odd slicing and the limits.
+// Cases of the machine, run on hand-assembled code: every operation, every fault, both kinds, odd slicing and the
+// limits.
 pub mod runner;
 
 #[cfg(test)]
@@ -20,6 +21,7 @@ mod tests {
     use rolls::roll::Ending;
     use rolls::table::TableRoll;
     use rolls::text::TextRoll;
+    use std::alloc::AllocError;
     use std::test::Fail;
 
     fn whole(units: i32) -> Whole {
@@ -376,7 +378,7 @@ mod tests {
         assert_eq!(rt; few, Err(CaseRefusal::Run(Refusal::CellCount)));
     }
 
-    // The numbers under which users know the faults, their places in the roll, and their sentences.
+    // The numbers under which users know the faults and the refusals, and the place in the roll that a fault tells.
     #[test]
     fn numbers(rt: HostRuntime) {
         let cases = [
@@ -402,6 +404,49 @@ mod tests {
         for (refusal, number) in refusals {
             assert_eq!(rt; refusal.number(), number);
         }
+    }
+
+    // The sentences of the faults and the refusals.
+    #[test]
+    fn sentences(rt: HostRuntime) -> Result<(), AllocError> {
+        let faults = [
+            (
+                RunFault::Calculation(Fault::OutOfRange),
+                "a result lies over the range",
+            ),
+            (
+                RunFault::Calculation(Fault::DivisionByZero),
+                "a division by zero",
+            ),
+            (RunFault::Roll(Ending::End), "the roll has ended"),
+            (RunFault::Roll(Ending::Damaged(5)), "the roll is damaged"),
+            (RunFault::BookFull, "the book is full"),
+            (RunFault::Subscript, "a subscript lies outside its bounds"),
+        ];
+        for (fault, sentence) in faults {
+            assert_eq!(rt; fault.to_string(rt.alloc())?.as_str(), sentence);
+        }
+        let refusals = [
+            (
+                Refusal::CellCount,
+                "the cells are not as many as the code has",
+            ),
+            (
+                Refusal::ShortStack,
+                "the stack is shorter than the code's depth",
+            ),
+            (Refusal::NotNamed, "this is not the number of a named cell"),
+            (Refusal::Ended, "the run has ended"),
+            (Refusal::StepLimit, "the run would pass 4,000,000,000 steps"),
+            (
+                Refusal::ShortBook,
+                "the book is shorter than the figures posted",
+            ),
+        ];
+        for (refusal, sentence) in refusals {
+            assert_eq!(rt; refusal.to_string(rt.alloc())?.as_str(), sentence);
+        }
+        Ok(())
     }
 
     // 41 to 46 in one run that posts a figure and then goes round.

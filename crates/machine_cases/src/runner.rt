@@ -18,7 +18,7 @@ use machine::status::Status;
 use rolls::roll::Roll;
 
 // Why a case comes to no status.
-#[derive(Clone, Copy, PartialEq, Debug)]
+#[derive(Clone, Copy, PartialEq, Eq, Debug)]
 pub enum CaseRefusal {
     // the check refuses the code
     Check(CodeRefusal),
