@@ -1,18 +1,19 @@
 // The parser's single steps: looking at the next word, taking it, making a node.
 
 ghost use Rattle.std.specs.Prelude.{◌≡◌, ◌+◌, ◌<◌, true, length, drop, is_some};
-ghost use Rattle.grammar.specs.Classes.{heads, the_mark, a_name, when};
+ghost use Rattle.words.specs.declared.token.Keyword.{Keyword};
+ghost use Rattle.grammar.specs.Classes.{heads, the_mark, the_keyword, a_name, when};
 ghost use Rattle.parser.specs.Records.{all, ahead};
 ghost use Rattle.parser.specs.Labels.{is_label};
 ghost use Rattle.parser.specs.Promises.{Took, Made, instead, next, in_text, place_of};
-ghost use Rattle.parser.specs.Expecting.{Comes, Takes};
+ghost use Rattle.parser.specs.Expecting.{is_that, Comes, Takes};
 
 use crate::class::WordClass;
 use crate::node::Node;
 use crate::refusal::Refusal;
 use crate::table::Parser;
 use grammar::refusal::SentenceRefusal;
-use words::token::{Mark, Token};
+use words::token::{Keyword, Mark, Token};
 use words::word::Word;
 
 impl Parser<'_> {
@@ -81,6 +82,21 @@ impl Parser<'_> {
                     ..
                 },
             ) => Some(self.at),
+            _ => None,
+        }
+    }
+
+    // The next word, if it is a reserved one.
+    pub(crate) fn next_keyword(&self) -> Option<Keyword>
+        ensures { (k : Keyword) → heads (the_keyword k) (ahead self.now) ≡ when (is_that k result) tt }
+    {
+        match self.peek() {
+            Some(
+                Word {
+                    token: Token::Keyword(k),
+                    ..
+                },
+            ) => Some(k),
             _ => None,
         }
     }
