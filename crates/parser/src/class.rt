@@ -25,7 +25,7 @@ pub(crate) trait WordClass: Copy {
         ensures { (bs : List ℕ) → Finds (class self) (content self) (token_in bs token) result };
 }
 
-// A mark is the class of itself.
+// A mark is the class of itself. Each kind of word has an impl of its own, since a case of an enum is no parameter.
 impl WordClass for Mark {
     type Found = ();
 

@@ -1,11 +1,11 @@
 // Statements with labels, and those that hold other statements.
 
-ghost use Rattle.std.specs.Prelude.{◌≡◌, ℕ, ◌+◌, ◌*◌, ◌<◌, ◌≤◌, false, Some};
-ghost use Rattle.grammar.specs.Classes.{heads, the_mark, the_keyword, when};
+ghost use Rattle.std.specs.Prelude.{◌≡◌, ◌+◌, ◌*◌, ◌<◌, ◌≤◌, false, Some};
+ghost use Rattle.grammar.specs.Classes.{heads, the_keyword};
 ghost use Rattle.grammar.specs.Grammar.{a, row, statement};
 ghost use Rattle.grammar.specs.Parser.{goto, begin};
-ghost use Rattle.parser.specs.Records.{all, ahead, RowAt, StatementAt};
-ghost use Rattle.parser.specs.Promises.{Moves, Reads, here, in_text, next};
+ghost use Rattle.parser.specs.Records.{ahead, RowAt, StatementAt};
+ghost use Rattle.parser.specs.Promises.{Moves, Reads, here};
 ghost use Rattle.parser.specs.Labels.{is_label, LabelsPassed, LabelsMade};
 
 use crate::element::ElementPart;

@@ -1,6 +1,6 @@
 // The parser's single steps: looking at the next word, taking it, making a node.
 
-ghost use Rattle.std.specs.Prelude.{◌≡◌, ◌+◌, ◌<◌, true, length, drop, is_some};
+ghost use Rattle.std.specs.Prelude.{◌≡◌, ◌+◌, ◌<◌, true, length, drop};
 ghost use Rattle.words.specs.declared.token.Keyword.{Keyword};
 ghost use Rattle.grammar.specs.Classes.{heads, the_mark, the_keyword, a_name, when};
 ghost use Rattle.parser.specs.Records.{all, ahead};
