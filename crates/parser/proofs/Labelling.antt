@@ -27,17 +27,13 @@ is_some_when : (b : Bool) → is_some (when {A = Unit {0}} b tt) ≡ b
 is_some_when true = refl
 is_some_when false = refl
 
--- A name and a colon are a label; what begins with no name is none.
+-- A name and a colon are a label.
 pub label_there : (xs : List Word) (i : ℕ) (x : List ℕ) (b : Bool) → heads a_name (drop i xs) ≡ Some x → heads (the_mark Colon) (drop (suc i) xs) ≡ when b tt → b ≡ is_label (drop i xs)
 label_there [] zero x b e f = none_some e
 label_there [] (suc i) x b e f = none_some e
 label_there (w ∷ xs) zero x b e f =
     sym (ap (λ (o : Option (List ℕ)). cond (is_some o) (is_some (heads (the_mark Colon) xs)) false) e ∙ (ap (λ (o : Option (Unit {0})). is_some o) f ∙ is_some_when b))
 label_there (w ∷ xs) (suc i) x b e f = label_there xs i x b e f
-
-pub label_missing : (ws : List Word) → heads a_name ws ≡ None → false ≡ is_label ws
-label_missing [] e = refl
-label_missing (w ∷ ws) e = sym (ap (λ (o : Option (List ℕ)). cond (is_some o) (is_some (heads (the_mark Colon) ws)) false) e)
 
 colon_missing : (w : Word) (ws : List Word) (x : List ℕ) → heads a_name (w ∷ ws) ≡ Some x → is_label (w ∷ ws) ≡ false → heads (the_mark Colon) ws ≡ None
 colon_missing w ws x e f = is_none (heads (the_mark Colon) ws) (sym (ap (λ (o : Option (List ℕ)). cond (is_some o) (is_some (heads (the_mark Colon) ws)) false) e) ∙ f)

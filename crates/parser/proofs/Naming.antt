@@ -1,5 +1,5 @@
 -- A name that was taken.
-use Rattle.std.proofs.Common.{◌≡◌, ℕ, zero, suc, ◌<◌, List, [], ◌∷◌, length, get_or, drop, Some, None, Option, sym, refl, ap, ◌∙◌, arith}
+use Rattle.std.proofs.Common.{◌≡◌, ℕ, zero, suc, ◌<◌, List, [], ◌∷◌, length, get_or, drop, Bool, true, cond, is_some, Some, None, Option, sym, refl, ap, ◌∙◌, arith}
 use Rattle.words.specs.Token.{Token, Word, name}
 use Rattle.grammar.specs.Tree.{Name}
 use Rattle.grammar.specs.Classes.{heads, a_name}
@@ -50,3 +50,8 @@ name_missing r e = by (heads a_name (ahead r)) e
     by : (o : Option (List ℕ)) → None ≡ instead r.at o → o ≡ None
     by None e = refl
     by (Some x) e = none_some e
+
+-- A name comes where the number of one is told.
+pub name_comes : (r : Parser) (o : Option ℕ) → is_some o ≡ true → o ≡ instead r.at (heads a_name (ahead r)) → (x : List ℕ) × (heads a_name (ahead r) ≡ Some x)
+name_comes r None i e = let z : ◌≡◌ {A = ℕ} 0 1 = ap {B = ℕ} (λ b. cond b 1 0) i in absurd (omega arith)
+name_comes r (Some w) i e = let n = name_taken r w e in (n.letters, n.next)

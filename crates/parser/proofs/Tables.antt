@@ -1,5 +1,7 @@
 -- Words and nodes of a table of records.
-use Rattle.std.proofs.Common.{◌≡◌, ℕ, zero, suc, ◌<◌, ◌≤◌, List, [], ◌∷◌, map, length, get_or, take, drop, set, Some, refl, ap, arith}
+use Rattle.std.proofs.Common.{◌≡◌, ℕ, zero, suc, ◌<◌, ◌≤◌, List, [], ◌∷◌, map, length, get_or, take, drop, set, Some, None, Option, sym, refl, ap, arith, Bor}
+use Rattle.std.specs.Option.{option_map, IfSome, MatchOption}
+use Rattle.std.specs.List.{HoldsAt}
 use Rattle.words.specs.declared.word.Word.{Word as WordRecord}
 use Rattle.words.specs.Token.{Word}
 use Rattle.words.specs.Records.{word_in}
@@ -9,6 +11,7 @@ use Rattle.grammar.specs.Classes.{heads, Class, Content}
 use Rattle.grammar.proofs.Found.{none_some}
 use Rattle.parser.specs.declared.table.Parser.{Parser}
 use Rattle.parser.specs.Records.{words, nodes, all, ahead}
+use Rattle.parser.specs.Promises.{next, in_text}
 
 -- A node that is put into the table leaves the words.
 pub words_set : (l : List Record) (i : ℕ) (d : Record) (n : Node) → words (set l i (record { word = (get_or l i d).word; symbol = (get_or l i d).symbol; node = n })) ≡ words l
@@ -40,6 +43,27 @@ ahead_nil text zero (suc i) l h = refl
 ahead_nil text (suc n) zero l h = absurd (omega arith)
 ahead_nil text (suc n) (suc i) [] h = refl
 ahead_nil text (suc n) (suc i) (r ∷ l) h = ahead_nil text n i l (omega arith)
+
+-- The record that is got among the first n has the next word.
+next_got : (text : List ℕ) (n i : ℕ) (l : List Record) (x : Record) → i < length (take n l) → x ≡ get_or (take n l) i x → Some (word_in text x.word) ≡ next (drop i (map (word_in text) (take n (words l))))
+next_got text zero i l x h e = absurd (omega arith)
+next_got text (suc n) i [] x h e = absurd (omega arith)
+next_got text (suc n) zero (r ∷ l) x h e = ap (λ (z : Record). Some (word_in text z.word)) e
+next_got text (suc n) (suc i) (r ∷ l) x h e = next_got text n i l x (omega arith) e
+
+next_past : (text : List ℕ) (n i : ℕ) (l : List Record) → length (take n l) ≤ i → None ≡ next (drop i (map (word_in text) (take n (words l))))
+next_past text zero zero l h = refl
+next_past text zero (suc i) l h = refl
+next_past text (suc n) zero [] h = refl
+next_past text (suc n) (suc i) [] h = refl
+next_past text (suc n) zero (r ∷ l) h = absurd (omega arith)
+next_past text (suc n) (suc i) (r ∷ l) h = next_past text n i l (omega arith)
+
+-- What is got among the first n records is the next word, or there is none.
+pub word_got : (text : List ℕ) (n i : ℕ) (l : List Record) (o : Option (Bor Record)) → MatchOption o (length (take n l) ≤ i) (λ x. (i < length (take n l)) × HoldsAt (λ y. x.now ≡ y) (take n l) i)
+    → IfSome o (λ x. x.now ≡ get_or (take n l) i x.now) → in_text text (option_map (λ x. x.now.word) o) ≡ next (drop i (map (word_in text) (take n (words l))))
+word_got text n i l (Some x) m h = next_got text n i l x.now m.0 h
+word_got text n i l None m h = next_past text n i l m
 
 -- Where a class has something of the next word, there is one.
 head_within : (c : Class) (x : Content c) (xs : List Word) (i : ℕ) → heads c (drop i xs) ≡ Some x → i < length xs

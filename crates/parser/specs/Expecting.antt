@@ -1,14 +1,20 @@
 -- What the methods promise that take a word which has to come, or open a level.
-use Rattle.std.specs.Prelude.{◌≡◌, ℕ, suc, true, false, List, length, Some, None, Option, Ok, Err, Result}
+use Rattle.std.specs.Prelude.{◌≡◌, ℕ, suc, Bool, true, false, List, length, Some, None, Option, Ok, Err, Result}
 use Rattle.words.specs.declared.token.Mark.{Mark}
+use Rattle.words.specs.declared.token.Keyword.{Keyword}
 use Rattle.words.specs.Token.{Token, Word}
 use Rattle.grammar.specs.declared.refusal.SentenceRefusal.{SentenceRefusal}
 use Rattle.grammar.specs.declared.refusal.SentenceRefusal.TheVariants.{Unexpected, TooDeep}
-use Rattle.grammar.specs.Classes.{heads, found, Class, Content, the_mark, a_name}
+use Rattle.grammar.specs.Classes.{heads, found, Class, Content, the_mark, a_name, is_keyword}
 use Rattle.parser.specs.declared.refusal.Refusal.{Refusal}
 use Rattle.parser.specs.declared.table.Parser.{Parser}
 use Rattle.parser.specs.Records.{ahead}
 use Rattle.parser.specs.Promises.{instead, place_of, Took}
+
+-- Is it this reserved word?
+abbrev pub is_that : Keyword → Option Keyword → Bool
+is_that k None = false
+is_that k (Some j) = is_keyword k j
 
 -- The next word is of the class, with this content, and was taken.
 pub record Expected (c : Class) (x : Content c) (r s : Parser) : Type 0 where

@@ -17,7 +17,7 @@ pub(crate) trait WordClass: Copy {
     // Which class of the grammar it is.
     ghost class: { Self → Class };
 
-    // What the grammar says of that.
+    // What the grammar has for what is learned.
     ghost content: { (s : Self) → Self.Found → Content (class s) };
 
     // What the word has of the class.
@@ -25,7 +25,7 @@ pub(crate) trait WordClass: Copy {
         ensures { (bs : List ℕ) → Finds (class self) (content self) (token_in bs token) result };
 }
 
-// A mark is the class of itself.
+// A mark is the class of itself. Each kind of word has an impl of its own, since a case of an enum is no parameter.
 impl WordClass for Mark {
     type Found = ();
 
@@ -159,7 +159,7 @@ impl WordClass for Operators {
 fn allowed_prefix(rank: usize, o: Prefix) -> Option<Prefix>
     ensures { result ≡ from_rank rank (Some o) }
 {
-    if rank <= o.rank() { Some(o) } else { None }
+    Some(o).filter(|o| rank <= o.rank())
 }
 
 // An operator, where its rank is `rank` to `bound`.

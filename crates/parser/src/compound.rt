@@ -1,11 +1,11 @@
 // Statements with labels, and those that hold other statements.
 
-ghost use Rattle.std.specs.Prelude.{◌≡◌, ℕ, ◌+◌, ◌*◌, ◌<◌, ◌≤◌, false, Some};
-ghost use Rattle.grammar.specs.Classes.{heads, the_mark, the_keyword, when};
+ghost use Rattle.std.specs.Prelude.{◌≡◌, ◌+◌, ◌*◌, ◌<◌, ◌≤◌, false, Some};
+ghost use Rattle.grammar.specs.Classes.{heads, the_keyword};
 ghost use Rattle.grammar.specs.Grammar.{a, row, statement};
 ghost use Rattle.grammar.specs.Parser.{goto, begin};
-ghost use Rattle.parser.specs.Records.{all, ahead, RowAt, StatementAt};
-ghost use Rattle.parser.specs.Promises.{Moves, Reads, here, in_text, next};
+ghost use Rattle.parser.specs.Records.{ahead, RowAt, StatementAt};
+ghost use Rattle.parser.specs.Promises.{Moves, Reads, here};
 ghost use Rattle.parser.specs.Labels.{is_label, LabelsPassed, LabelsMade};
 
 use crate::element::ElementPart;
@@ -64,30 +64,19 @@ impl Parser<'_> {
         ensures moves { Moves self.old self.new }
         ensures reads { Reads StatementAt levels self.old self.new (here (goto (begin (a statement)))) result }
     {
-        if self.next_is(Keyword::If) {
-            return self.conditional(levels);
-        }
-        if self.next_is(Keyword::For) {
-            return self.repetition(levels);
-        }
-        if self.next_is(Keyword::Begin) {
-            return self.block(levels);
-        }
-        if self.next_is(Keyword::Go) {
-            return self.jump(levels);
-        }
-        if self.next_is(Keyword::In) {
-            return self.input(levels);
-        }
-        if self.next_is(Keyword::Print) {
-            return self.print(levels);
-        }
-        if self.next_is(Keyword::Stop) {
-            return Ok(self.stop());
-        }
-        match self.next_name() {
-            Some(name) => self.assignment(name, levels),
-            None => Err(self.refuse(SentenceRefusal::Unexpected)),
+        match self.next_keyword() {
+            Some(Keyword::If) => self.conditional(levels),
+            Some(Keyword::For) => self.repetition(levels),
+            Some(Keyword::Begin) => self.block(levels),
+            Some(Keyword::Go) => self.jump(levels),
+            Some(Keyword::In) => self.input(levels),
+            Some(Keyword::Print) => self.print(levels),
+            Some(Keyword::Stop) => Ok(self.stop()),
+            // The refusal is made only where it is told.
+            _ => match self.next_name() {
+                Some(name) => self.assignment(name, levels),
+                None => Err(self.refuse(SentenceRefusal::Unexpected)),
+            },
         }
     }
 

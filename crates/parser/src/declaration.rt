@@ -1,6 +1,6 @@
 // Names, and the parts of declarations.
 
-ghost use Rattle.std.specs.Prelude.{◌≡◌, ℕ};
+ghost use Rattle.std.specs.Prelude.{ℕ};
 ghost use Rattle.grammar.specs.Tree.{Row, Name, Item};
 ghost use Rattle.grammar.specs.Grammar.{a, identifier, group};
 ghost use Rattle.grammar.specs.Parser.{goto, begin, done, names_script};

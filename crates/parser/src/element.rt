@@ -1,6 +1,5 @@
 // The elements of a for's list, and what rows of them and of expressions are made of.
 
-ghost use Rattle.std.specs.Prelude.{◌≡◌, ℕ};
 ghost use Rattle.grammar.specs.Grammar.{a, exp, element};
 ghost use Rattle.grammar.specs.Parser.{goto, begin};
 ghost use Rattle.parser.specs.Records.{ElementAt};

@@ -1,6 +1,6 @@
 // Words that have to come: taken, or refused.
 
-ghost use Rattle.std.specs.Prelude.{◌≡◌, ◌<◌};
+ghost use Rattle.std.specs.Prelude.{◌<◌};
 ghost use Rattle.parser.specs.Promises.{Moves};
 ghost use Rattle.parser.specs.Expecting.{Expects, ExpectsName, Opens, OpensMark};
 
@@ -11,7 +11,8 @@ use grammar::refusal::SentenceRefusal;
 use words::token::Mark;
 
 impl Parser<'_> {
-    // Takes the next word, which has to be of the class, and says what it has of it.
+    // Takes the next word, which has to be of the class, and says what it has of it. Two arms, since a closure that only
+    // refuses is no shorter.
     pub(crate) fn expect<C: WordClass>(&mut self, class: C) -> Result<C::Found, Refusal>
         ensures moves { Moves self.old self.new }
         ensures took { Expects (C.class class) (C.content class) self.old self.new result }
@@ -22,7 +23,7 @@ impl Parser<'_> {
         }
     }
 
-    // Takes a name, which has to come, and says which word it is.
+    // Takes a name, which has to come, and says which word it is. Two arms, since the word is passed over in one.
     pub(crate) fn expect_name(&mut self) -> Result<usize, Refusal>
         ensures moves { Moves self.old self.new }
         ensures took { ExpectsName self.old self.new result }

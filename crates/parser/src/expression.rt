@@ -1,6 +1,6 @@
 // Expressions: recursive descent with the levels left, by the ranks of operators.
 
-ghost use Rattle.std.specs.Prelude.{◌≡◌, ℕ, ◌+◌, ◌<◌, ◌≤◌, Some};
+ghost use Rattle.std.specs.Prelude.{◌≡◌, ◌<◌, Some};
 ghost use Rattle.grammar.specs.Classes.{heads, the_mark};
 ghost use Rattle.grammar.specs.Grammar.{a, ranked, factor, variable};
 ghost use Rattle.grammar.specs.Parser.{goto, begin, operators};

@@ -37,22 +37,14 @@ impl Parser<'_> {
         ensures moves { Moves self.old self.new }
         ensures reads { Reads Item_at levels self.old self.new (here (goto (begin (a item)))) result }
     {
-        if self.next_is(Keyword::Comment) {
-            return Ok(self.comment());
+        match self.next_keyword() {
+            Some(Keyword::Comment) => Ok(self.comment()),
+            Some(Keyword::Integer) => self.integers(levels),
+            Some(Keyword::Boolean) => self.booleans(levels),
+            Some(Keyword::Array) => self.arrays(levels),
+            Some(Keyword::Switch) => self.switch(levels),
+            _ => self.statement(levels),
         }
-        if self.next_is(Keyword::Integer) {
-            return self.integers(levels);
-        }
-        if self.next_is(Keyword::Boolean) {
-            return self.booleans(levels);
-        }
-        if self.next_is(Keyword::Array) {
-            return self.arrays(levels);
-        }
-        if self.next_is(Keyword::Switch) {
-            return self.switch(levels);
-        }
-        self.statement(levels)
     }
 
     // `comment`, with what it skips.

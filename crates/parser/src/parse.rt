@@ -1,6 +1,6 @@
 // From the bytes of a text to its tree.
 
-ghost use Rattle.std.specs.Prelude.{◌≡◌, ◌≤◌, length};
+ghost use Rattle.std.specs.Prelude.{◌≤◌, length};
 ghost use Rattle.parser.specs.Reading.{ParsesWords, Parsed};
 
 use crate::refusal::{ParseRefusal, Refusal};

@@ -1,7 +1,6 @@
 // The work table and the parser over it.
 
 ghost use Rattle.std.specs.Prelude.{◌≤◌, length};
-ghost use Rattle.words.specs.declared.word.Word.{Word as WordRecord};
 
 use crate::node::Node;
 use words::table::WordSlot;
@@ -31,7 +30,7 @@ impl WordSlot for Record {
 // The text, the table with its words first, how many words there are, how many are taken, and how many nodes are made.
 // The words stand in the table, no more are taken than there are, and no more nodes are made than words were taken.
 #[derive(Drop)]
-pub struct Parser<'a> {
+pub(crate) struct Parser<'a> {
     pub text: &'a [u8],
     pub table: &'a mut [Record],
     // The words take the first `count` records: the lent table is longer, and goes back whole to the caller.

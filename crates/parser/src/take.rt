@@ -1,18 +1,19 @@
 // The parser's single steps: looking at the next word, taking it, making a node.
 
-ghost use Rattle.std.specs.Prelude.{◌≡◌, ◌+◌, ◌<◌, true, length, drop, is_some};
-ghost use Rattle.grammar.specs.Classes.{heads, the_mark, a_name, when};
+ghost use Rattle.std.specs.Prelude.{◌≡◌, ◌+◌, ◌<◌, true, length, drop};
+ghost use Rattle.words.specs.declared.token.Keyword.{Keyword};
+ghost use Rattle.grammar.specs.Classes.{heads, the_mark, the_keyword, a_name, when};
 ghost use Rattle.parser.specs.Records.{all, ahead};
 ghost use Rattle.parser.specs.Labels.{is_label};
 ghost use Rattle.parser.specs.Promises.{Took, Made, instead, next, in_text, place_of};
-ghost use Rattle.parser.specs.Expecting.{Comes, Takes};
+ghost use Rattle.parser.specs.Expecting.{is_that, Comes, Takes};
 
 use crate::class::WordClass;
 use crate::node::Node;
 use crate::refusal::Refusal;
 use crate::table::Parser;
 use grammar::refusal::SentenceRefusal;
-use words::token::{Mark, Token};
+use words::token::{Keyword, Mark, Token};
 use words::word::Word;
 
 impl Parser<'_> {
@@ -20,11 +21,7 @@ impl Parser<'_> {
     fn word_at(&self, i: usize) -> Option<Word>
         ensures { in_text self.now.text.now result ≡ next (drop i (all self.now)) }
     {
-        if i < self.count {
-            Some(self.table[i].word)
-        } else {
-            None
-        }
+        self.table[..self.count].get(i).map(|record| record.word)
     }
 
     // The next word.
@@ -38,10 +35,7 @@ impl Parser<'_> {
     pub(crate) fn place(&self) -> usize
         ensures { result ≡ place_of (length self.now.text.now) (ahead self.now) }
     {
-        match self.peek() {
-            Some(w) => w.place,
-            None => self.text.len(),
-        }
+        self.peek().map_or(self.text.len(), |w| w.place)
     }
 
     // The refusal at the next word, or at the text's end.
@@ -59,10 +53,8 @@ impl Parser<'_> {
     fn word_of<C: WordClass>(&self, i: usize, class: C) -> Option<C::Found>
         ensures { Comes (C.class class) (C.content class) (drop i (all self.now)) result }
     {
-        match self.word_at(i) {
-            Some(w) => class.find(w.token),
-            None => None,
-        }
+        let w = self.word_at(i)?;
+        class.find(w.token)
     }
 
     // What the next word has of the class.
@@ -94,25 +86,33 @@ impl Parser<'_> {
         }
     }
 
+    // The next word, if it is a reserved one.
+    pub(crate) fn next_keyword(&self) -> Option<Keyword>
+        ensures { (k : Keyword) → heads (the_keyword k) (ahead self.now) ≡ when (is_that k result) tt }
+    {
+        match self.peek() {
+            Some(
+                Word {
+                    token: Token::Keyword(k),
+                    ..
+                },
+            ) => Some(k),
+            _ => None,
+        }
+    }
+
     // Is the word behind the next one the mark?
     fn second_is_mark(&self, m: Mark) -> bool
         ensures { heads (the_mark m) (drop (self.now.at + 1) (all self.now)) ≡ when result tt }
     {
-        if self.at < self.count {
-            self.word_of(self.at + 1, m).is_some()
-        } else {
-            false
-        }
+        self.at < self.count && self.word_of(self.at + 1, m).is_some()
     }
 
     // Do a name and a colon come next?
     pub(crate) fn next_is_label(&self) -> bool
         ensures { result ≡ is_label (ahead self.now) }
     {
-        match self.next_name() {
-            Some(_) => self.second_is_mark(Mark::Colon),
-            None => false,
-        }
+        self.next_name().is_some() && self.second_is_mark(Mark::Colon)
     }
 
     // Passes over the next word.

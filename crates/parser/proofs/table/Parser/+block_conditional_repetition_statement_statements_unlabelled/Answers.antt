@@ -1,11 +1,12 @@
-use Rattle.std.proofs.Common.{refl, arith}
+use Rattle.std.proofs.Common.{rules, ◌≡◌, None, refl, arith}
 use Rattle.std.proofs.lemmas.Result.{err_from_is_err_and}
-use Rattle.words.specs.declared.token.Keyword.TheVariants.{Begin, If, For}
-use Rattle.grammar.specs.Classes.{the_keyword}
+use Rattle.words.specs.declared.token.Keyword.TheVariants.{Begin, If, For, Go, In, Print, Stop}
+use Rattle.grammar.specs.Classes.{heads, the_keyword}
 use Rattle.grammar.specs.Grammar.{statement}
 use Rattle.grammar.specs.Parser.{conditional_script, repetition_script, block_script}
+use Rattle.parser.specs.Records.{ahead}
 use Rattle.parser.proofs.Tables.{word_left}
-use Rattle.parser.proofs.Moving.{moves_trans, moves_none}
+use Rattle.parser.proofs.Moving.{moves_trans}
 use Rattle.parser.proofs.Naming.{name_missing}
 use Rattle.parser.proofs.Rows.{row_none, row_again, row_paid, row_falls, row_fails, row_refused, row_ended}
 use Rattle.parser.proofs.Stepping.{part_deep, stops_behind_deeper, stops_missing_deeper}
@@ -179,11 +180,14 @@ statements-returns t c =
     row_ended statement c.args.levels c.args.self.now c.statement.new.self c.in_ok-all.all c.loop-self.self c.loop-self.all c.take.new.self
     c.in_ok-all.ensures.reads c.loop-self.invariant c.in_default.ensures.is c.in_default.ensures.took
 
-pub unlabelled-returns-in-None : goal.unlabelled-returns-in-None
-unlabelled-returns-in-None t c =
+pub unlabelled-returns-in-None-clause-reads : goal.unlabelled-returns-in-None-clause-reads
+unlabelled-returns-in-None-clause-reads t c =
     let r = c.args.self.now in
-    record {
-      moves = moves_none r;
-      reads = statement_missing c.args.levels r c.refuse.result c.if-next_is.ensures c.if-next_is-2.ensures c.if-next_is-3.ensures c.if-next_is-4.ensures
-          c.if-next_is-5.ensures c.if-next_is-6.ensures c.if-next_is-7.ensures (name_missing r c.in-None.ensures) (record { reason = c.refuse.ensures.reason; place = c.refuse.ensures.place });
-    }
+    let e₁ : heads (the_keyword If) (ahead r) ≡ None = search rules in
+    let e₂ : heads (the_keyword For) (ahead r) ≡ None = search rules in
+    let e₃ : heads (the_keyword Begin) (ahead r) ≡ None = search rules in
+    let e₄ : heads (the_keyword Go) (ahead r) ≡ None = search rules in
+    let e₅ : heads (the_keyword In) (ahead r) ≡ None = search rules in
+    let e₆ : heads (the_keyword Print) (ahead r) ≡ None = search rules in
+    let e₇ : heads (the_keyword Stop) (ahead r) ≡ None = search rules in
+    statement_missing c.args.levels r c.refuse.result e₁ e₂ e₃ e₄ e₅ e₆ e₇ (name_missing r c.in-None.ensures) (record { reason = c.refuse.ensures.reason; place = c.refuse.ensures.place })
