@@ -1,4 +1,4 @@
-// The two tables of a text: what stands at a node, and what is known of the name that a word is.
+// The two tables of a text as one value, and what is known of the name that a word is.
 
 ghost use Rattle.std.specs.Prelude.{◌≡◌, List};
 ghost use Rattle.grammar.specs.Tree.{Name as NameTree};
@@ -28,14 +28,14 @@ impl Tables<'_> {
         self.names.get(number_of(self.records, w)).copied()
     }
 
-    // What the word's name is.
+    // What the word's name is. With no line it is a variable, as a name is of which nothing is known.
     pub fn kind_of(&self, w: usize) -> NameKind
         ensures { (v : View) (ss : List Symbol) (x : NameTree) → Holds v self.now ss → Named v w x → KindAt v result (kind_in ss x.letters) }
     {
         self.line_of(w).map_or(NameKind::Variable, |line| line.kind)
     }
 
-    // The type of the word's name.
+    // The type of the word's name. With no line it has none, which is a case of the type.
     pub fn type_of(&self, w: usize) -> ValueType
         ensures { (v : View) (ss : List Symbol) (x : NameTree) → Holds v self.now ss → Named v w x → result ≡ type_in ss x.letters }
     {

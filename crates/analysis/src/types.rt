@@ -50,7 +50,8 @@ impl Tables<'_> {
         }
     }
 
-    // An offence that is told at the first byte of the expression at node i.
+    // An offence that is told at the first byte of the expression at node i. Written out: with `then` and a closure the
+    // equation is not proved.
     fn told_at_first_byte(&self, offends: bool, i: usize) -> Option<usize>
         ensures { (v : View) (e : Exp) → v.nodes ≡ nodes_of self.now.records.now → HoldsPlaces v self.now.records.now → ExpAt v e i → result ≡ earliest_of (told_at offends (first_byte e)) }
     {
