@@ -24,7 +24,7 @@ pub fn extent(low: Bound, high: Bound) -> usize
     ensures small { result ≤ 8589934592 }
 {
     let n = value(high) - value(low) + 1;
-    if n < 0 { 0 } else { n as usize }
+    usize::try_from(n).unwrap_or(0)
 }
 
 // How many cells a name of this kind has.

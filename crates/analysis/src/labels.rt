@@ -36,7 +36,7 @@ impl Labels {
     pub fn contains(&self, k: usize) -> bool
         ensures { result ≡ slice_index_or self.now.lines k false }
     {
-        k < MOST_LINES && self.lines[k]
+        self.lines.get(k).is_some_and(|seen| *seen)
     }
 
     // Puts line k into the set.
