@@ -54,7 +54,7 @@ impl Tables<'_> {
     }
 
     // The earliest offence of the elements at node i; a printed row of expressions is one of single elements. The walk of
-    // `elements_offence` over another rule: what the two tell is defined apart, and no one clause says both.
+    // `elements_offence` over another rule: one walk for both needs a third definition of what elements tell.
     fn elements_misuse(&self, i: usize) -> Option<usize>
         ensures { EarliestIn (RowAt ElementAt) (λ ss es. misused_names ss (each in_element es)) self.now i result }
     {
