@@ -1,5 +1,8 @@
 -- How many subscripts lie between two bounds of 32 bits.
-use Rattle.std.proofs.Common.{◌≡◌, ℕ, ◌<◌, ◌≤◌, ℤ, pos, negsuc, ◌+ℤ◌, ◌-ℤ◌, neg_ℤ, nat_abs, ◌≤ℤ◌, refl, ap, ◌∙◌, arith}
+use Rattle.std.proofs.Common.{◌≡◌, ℕ, ◌<◌, ℤ, pos, negsuc, ◌+ℤ◌, ◌-ℤ◌, neg_ℤ, nat_abs, ◌≤ℤ◌, Result, refl, ap, ◌∙◌, arith}
+use Rattle.std.specs.Prelude.{Ok, Err}
+use Rattle.std.specs.Int.{FitsUnsignedBits}
+use Rattle.std.specs.Result.{OkIff, result_unwrap_or}
 use Rattle.std.proofs.lemmas.Int.{ints}
 use Rattle.words.specs.declared.token.Sign.{Sign}
 use Rattle.words.specs.declared.token.Sign.TheVariants.{Plus, Minus}
@@ -14,21 +17,16 @@ pub bound_range : (s : Sign) (n : ℕ) → n < 4294967296 → InRange (signed s 
 bound_range Plus n h = record { low = omega (arith, ints); high = omega (arith, ints) }
 bound_range Minus n h = record { low = omega (arith, ints); high = omega (arith, ints) }
 
--- A number from 0 on is its own size.
-size_is : (z : ℤ) → pos 0 ≤ℤ z → nat_abs z ≡ at_least_zero z
-size_is (pos n) h = refl
-size_is (negsuc n) h = absurd (omega (arith, ints))
+-- A number that is taken as it is from 0 on, and else as 0, is at least 0.
+taken_is : {E : Type 0} (z : ℤ) (r : Result ℕ E) → OkIff r (FitsUnsignedBits 64 z) (nat_abs z) → z ≤ℤ pos 8589934592 → result_unwrap_or r 0 ≡ at_least_zero z
+taken_is (pos n) (Ok x) (p, e) l = e
+taken_is (pos n) (Err d) h l = absurd (h (omega (arith, ints)))
+taken_is (negsuc n) (Ok x) (p, e) l = absurd p
+taken_is (negsuc n) (Err d) h l = refl
 
-size_small : (z : ℤ) → pos 0 ≤ℤ z → z ≤ℤ pos 8589934592 → nat_abs z ≤ 8589934592
-size_small (pos n) h l = omega (arith, ints)
-size_small (negsuc n) h l = absurd (omega (arith, ints))
+module _ (a b z : ℤ) (is : z ≡ b -ℤ a +ℤ pos 1) (p : InRange a) (q : InRange b) where
+  near : z ≤ℤ pos 8589934592
+  near = let u = p.low in let v = q.high in omega (arith, ints)
 
-module _ (a b z : ℤ) (is : z ≡ b -ℤ a +ℤ pos 1) (from_zero : pos 0 ≤ℤ z) where
-  pub extent_is : nat_abs z ≡ extent a b
-  extent_is = size_is z from_zero ∙ ap at_least_zero is
-
-  pub extent_small : InRange a → InRange b → nat_abs z ≤ 8589934592
-  extent_small r s =
-      let u = r.low in
-      let v = s.high in
-      size_small z from_zero (omega (arith, ints))
+  pub extent_is : {E : Type 0} (r : Result ℕ E) → OkIff r (FitsUnsignedBits 64 z) (nat_abs z) → result_unwrap_or r 0 ≡ extent a b
+  extent_is r h = taken_is z r h near ∙ ap at_least_zero is

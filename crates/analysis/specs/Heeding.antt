@@ -36,11 +36,12 @@ abbrev pub offends_line : Declaration → NameRecord → Bool
 offends_line (Defined k) r = is_defined_kind r.kind
 offends_line (Typed t) r = is_typed_as r.value_type || r.target
 
--- What a pass makes of a line, and whether it tells the declaration.
+-- What a pass makes of a line.
 abbrev pub heeded_in : Pass → Declaration → NameRecord → NameRecord
 heeded_in marking d r = marked_line d r
 heeded_in declaring d r = declared_line d r
 
+-- Whether a pass tells the declaration.
 abbrev pub offends_in : Pass → Declaration → NameRecord → Bool
 offends_in marking d r = false
 offends_in declaring d r = offends_line d r

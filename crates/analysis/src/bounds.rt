@@ -16,21 +16,25 @@ use parser::node::{Bound, Node};
 use parser::table::Record;
 use words::token::Sign;
 
-// The number that a bound is.
+// The number that a bound is. No conversion of the bound's own: the number is defined in the crate symbols, which the
+// parser, whose type a bound is, does not use.
 pub fn value(b: Bound) -> i64
     ensures { result ≡ bound_value (bound_in b) }
 {
     match b.sign {
-        Sign::Plus => b.size as i64,
-        Sign::Minus => -(b.size as i64),
+        Sign::Plus => i64::from(b.size),
+        Sign::Minus => -i64::from(b.size),
     }
 }
+
+// No bound lies farther from 0.
+const FARTHEST_BOUND: u32 = 9_999;
 
 // Are the bounds in order, and within 9,999 either way?
 fn are_bounds_ok(low: Bound, high: Bound) -> bool
     ensures { result ≡ bounds_ok (bound_in low) (bound_in high) }
 {
-    value(low) <= value(high) && low.size <= 9999 && high.size <= 9999
+    value(low) <= value(high) && low.size <= FARTHEST_BOUND && high.size <= FARTHEST_BOUND
 }
 
 // The offence of the group at node i.

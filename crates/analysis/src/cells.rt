@@ -3,17 +3,20 @@
 ghost use Rattle.std.specs.Prelude.{◌≡◌, ◌+◌, ◌≤◌, ◌&&◌, length, nat_le, nat_lt};
 ghost use Rattle.parser.specs.Records.{bound_in};
 ghost use Rattle.symbols.specs.Symbols.{bound_value, extent as extent_of};
-ghost use Rattle.symbols.specs.Types.{told};
+ghost use Rattle.symbols.specs.Types.{told as told_at};
 ghost use Rattle.analysis.specs.Earliest.{earliest_of};
 ghost use Rattle.analysis.specs.Counting.{cells_of, PlacesCells};
 
 use crate::bounds::value;
 use crate::cell_count::CellCount;
-use crate::earliest::earlier;
+use crate::earliest::{earlier, told};
 use crate::lines::place_of;
 use crate::symbol::{NameKind, NameRecord};
 use parser::node::Bound;
 use parser::table::Record;
+
+// A text has no more cells.
+pub(crate) const MOST_CELLS: usize = 2_048;
 
 // How many subscripts lie between two bounds.
 pub fn extent(low: Bound, high: Bound) -> usize
@@ -21,7 +24,7 @@ pub fn extent(low: Bound, high: Bound) -> usize
     ensures small { result ≤ 8589934592 }
 {
     let n = value(high) - value(low) + 1;
-    if n < 0 { 0 } else { n as usize }
+    usize::try_from(n).unwrap_or(0)
 }
 
 // How many cells a name of this kind has.
@@ -38,13 +41,9 @@ fn cells(kind: NameKind) -> usize
 
 // The place, if n cells behind the first c take the number past 2,048.
 pub(crate) fn passing(c: usize, n: usize, place: usize) -> Option<usize>
-    ensures { result ≡ earliest_of (told (nat_le c 2048 && nat_lt 2048 (c + n)) place) }
+    ensures { result ≡ earliest_of (told_at (nat_le c 2048 && nat_lt 2048 (c + n)) place) }
 {
-    if c <= 2048 && n > 2048 - c {
-        Some(place)
-    } else {
-        None
-    }
+    told(c <= MOST_CELLS && n > MOST_CELLS - c, place)
 }
 
 // Gives each line its first cell, and counts the cells of all.

@@ -22,6 +22,7 @@ fn declare<P: Pass>(
     ensures { DeclaresName P.kind records.now w d names.old names.new result }
 {
     let k = number_of(records, w);
+    // By index: nothing is known of the lines after a write through `get_mut`.
     if k < names.len() {
         told(P::heed(&mut names[k], d), place_of(records, w))
     } else {

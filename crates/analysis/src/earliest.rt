@@ -4,7 +4,8 @@ ghost use Rattle.std.specs.Prelude.{◌≡◌};
 ghost use Rattle.symbols.specs.Types.{told as told_at};
 ghost use Rattle.analysis.specs.Earliest.{earliest_of, earlier_of};
 
-// The earlier of two places, where each may be missing.
+// The earlier of two places, where each may be missing. Three cases: a missing place is later than any, where `min` of
+// two options has it first.
 pub fn earlier(a: Option<usize>, b: Option<usize>) -> Option<usize>
     ensures { result ≡ earlier_of a b }
 {

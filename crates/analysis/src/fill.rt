@@ -6,14 +6,11 @@ use crate::cells::place_cells;
 use crate::declare::declare_all;
 use crate::earliest::earlier;
 use crate::fors::count_fors;
-use crate::name_table::NameTable;
+use crate::name_table::{MOST_LINES, NameTable};
 use crate::numbering::number_names;
 use crate::pass::{Declare, Mark};
 use crate::symbol::NameRecord;
 use parser::table::Record;
-
-// A sentence of at most 500 words has fewer names.
-const MOST_LINES: usize = 256;
 
 // Fills the name table for the first words of the work table and the tree at node root; each word that is a name gets
 // the number of its line.
@@ -27,6 +24,7 @@ pub fn fill_names(
     ensures { Fills text.now count root records.old records.new names.old names.new result }
 {
     let lines = number_names(text, records, count, names);
+    // The first pass tells nothing.
     let _marked = declare_all::<Mark>(records, names, root);
     let second = declare_all::<Declare>(records, names, root);
     let used = lines.min(MOST_LINES);

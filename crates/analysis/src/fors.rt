@@ -3,7 +3,7 @@
 ghost use Rattle.analysis.specs.Counting.{CountsItems};
 
 use crate::cell_count::CellCount;
-use crate::cells::passing;
+use crate::cells::{MOST_CELLS, passing};
 use crate::earliest::earlier;
 use crate::ordered::ordered_node;
 use parser::node::Node;
@@ -25,14 +25,14 @@ pub(crate) fn count_fors(records: &[Record], i: usize, c: usize) -> CellCount
         Node::Labelled(_, body) => count_fors(records, body, c),
         Node::Conditional(_, _, body) => count_fors(records, body, c),
         Node::Repeated(place, _, _, body) => {
-            let b = count_fors(records, body, c.min(2048) + 1);
+            let b = count_fors(records, body, c.min(MOST_CELLS) + 1);
             CellCount {
                 cells: b.cells,
                 offence: earlier(passing(c, 1, place), b.offence),
             }
         }
         _ => CellCount {
-            cells: c.min(2049),
+            cells: c.min(MOST_CELLS + 1),
             offence: None,
         },
     }

@@ -8,14 +8,14 @@ use crate::declaration::Declaration;
 use crate::symbol::{NameKind, NameRecord};
 use symbols::value_type::ValueType;
 
-// Is something defined to be this?
+// Is it what a definition makes of a name?
 pub fn is_defined_kind(kind: NameKind) -> bool
     ensures { result ≡ is_defined_kind kind }
 {
     !matches!(kind, NameKind::Variable)
 }
 
-// Does control go there?
+// Is it a label or a switch?
 pub fn is_target_kind(kind: NameKind) -> bool
     ensures { result ≡ is_target_kind kind }
 {

@@ -11,14 +11,15 @@ ghost use Rattle.analysis.specs.SymbolTable.{HoldsSymbols};
 ghost use Rattle.analysis.specs.LabelSets.{SmallTable, Sees};
 
 use crate::lines::number_of;
+use crate::name_table::MOST_LINES;
 use crate::ordered::ordered_node;
 use parser::node::Node;
 use parser::table::Record;
 
-// Which lines of the symbol table are in the set.
+// Which lines of the symbol table are in the set. A fixed array, since the library has no heap.
 #[derive(Clone, Copy, PartialEq, Eq, Debug)]
 pub struct Labels {
-    pub lines: [bool; 256],
+    pub lines: [bool; MOST_LINES],
 }
 
 impl Labels {
@@ -27,7 +28,7 @@ impl Labels {
         ensures { (k : ℕ) → slice_index_or result.lines k false ≡ false }
     {
         Labels {
-            lines: [false; 256],
+            lines: [false; MOST_LINES],
         }
     }
 
@@ -35,7 +36,7 @@ impl Labels {
     pub fn contains(&self, k: usize) -> bool
         ensures { result ≡ slice_index_or self.now.lines k false }
     {
-        k < 256 && self.lines[k]
+        self.lines.get(k).is_some_and(|seen| *seen)
     }
 
     // Puts line k into the set.
@@ -43,7 +44,8 @@ impl Labels {
         ensures added { k < 256 → slice_index_or self.new.lines k false ≡ true }
         ensures kept { (j : ℕ) → (j ≢ k) → slice_index_or self.new.lines j false ≡ slice_index_or self.old.lines j false }
     {
-        if k < 256 {
+        // By index: nothing is known of the other lines after a write through `get_mut`.
+        if k < MOST_LINES {
             self.lines[k] = true;
         }
     }

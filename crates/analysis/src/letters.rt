@@ -19,7 +19,7 @@ pub fn letters<'a>(text: &'a [u8], w: Word) -> &'a [u8]
     }
 }
 
-// The letters of the word of this number.
+// The letters of the word of this number. A word past the table has none, so that the call asks nothing of its caller.
 pub fn letters_of<'a>(text: &'a [u8], records: &[Record], w: usize) -> &'a [u8]
     ensures { result.now ≡ word_letters text.now records.now w }
 {

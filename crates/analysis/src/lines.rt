@@ -1,4 +1,5 @@
-// What a word of the work table leads to: the line of its name, and its place.
+// What a word of the work table leads to: the line of its name, and its place. A word past the table has 0, so that the
+// calls ask nothing of their caller.
 
 ghost use Rattle.std.specs.Prelude.{◌≡◌, slice_index};
 ghost use Rattle.analysis.specs.SymbolTable.{line_numbers};

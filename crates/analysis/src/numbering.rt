@@ -24,7 +24,8 @@ fn new_line(w: usize) -> NameRecord
     }
 }
 
-// The line of word w's name among the first n, or line n, which it then gets.
+// The line of word w's name among the first n, or line n, which it then gets. The first n lines are filled; the table is
+// the caller's. Text and records are no one value: the two calls below write the records.
 fn enter_name(
     text: &[u8],
     records: &[Record],
@@ -80,6 +81,7 @@ pub(crate) fn number_names(
 {
     let mut n = 0;
     let end = count.min(records.len());
+    // By number: each step writes one record and reads the letters of others.
     for w in 0..end {
         n = number_word(text, records, w, names, n);
     }

@@ -1,4 +1,5 @@
-// Nodes whose parts stand before them, over which a walk ends.
+// Nodes whose parts stand before them, over which a walk ends. Each walk takes the step over a row, `Node::More`, by
+// itself: a function for that step would be given the walk as a closure, and be no shorter.
 
 ghost use Rattle.std.specs.Prelude.{◌≡◌};
 ghost use Rattle.analysis.specs.Views.{node_of};
@@ -8,7 +9,8 @@ use crate::tree::node_of;
 use parser::node::Node;
 use parser::table::Record;
 
-// Do the parts of the node stand before number i?
+// Do the parts of the node stand before number i? An answer for each node, and no list of its parts, of which a walk asks
+// no more.
 fn are_parts_before(node: Node, i: usize) -> bool
     ensures { result ≡ are_before node i }
 {

@@ -14,7 +14,7 @@ pub enum PartType {
 }
 
 impl PartType {
-    // Is a part of another type than this, which is wanted?
+    // Is a part of another type than this, which is wanted? `!=` by a name, whose clause is in the words of the rule.
     pub fn differs(self, t: PartType) -> bool
         ensures { result ≡ types_differ (part_in self) (part_in t) }
     {

@@ -1,4 +1,5 @@
-// Looking for a name among others.
+// Looking for a name among others: words by themselves here, and the lines of a table in line_search.rt, each with its
+// own definition.
 
 ghost use Rattle.std.specs.Prelude.{◌≡◌, map};
 ghost use Rattle.analysis.specs.Letters.{letters_in};

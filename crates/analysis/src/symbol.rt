@@ -9,7 +9,7 @@ pub enum NameKind {
     Label,
     // The node of its row of labels.
     Switch(usize),
-    // Its bounds.
+    // Its bounds: two side by side and no pair of them, as the definition of the tree has them.
     Array(Bound, Bound),
     Variable,
 }

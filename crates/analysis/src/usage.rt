@@ -1,15 +1,11 @@
 // Rule 8: names used against what they are.
 
-ghost use Rattle.std.specs.Prelude.{◌≡◌, not, List};
-ghost use Rattle.grammar.specs.Tree.{Name as NameTree};
-ghost use Rattle.parser.specs.Records.{View, Named, NameAt, ExpAt, ElementAt, RowAt, Item_at};
+ghost use Rattle.std.specs.Prelude.{not};
+ghost use Rattle.parser.specs.Records.{Named, NameAt, ExpAt, ElementAt, RowAt, Item_at};
 ghost use Rattle.symbols.specs.Occurrences.{each, in_switch, all_at, in_exp, in_element, occurrences};
-ghost use Rattle.symbols.specs.Symbols.{Symbol, kind_in};
+ghost use Rattle.symbols.specs.Symbols.{kind_in};
 ghost use Rattle.symbols.specs.Types.{told as told_at};
 ghost use Rattle.symbols.specs.Rules.{suits, misused_names};
-ghost use Rattle.analysis.specs.Earliest.{earliest_of};
-ghost use Rattle.analysis.specs.Tables.{Holds};
-ghost use Rattle.analysis.specs.NameLines.{HoldsPlaces};
 ghost use Rattle.analysis.specs.Offences.{EarliestIn};
 ghost use Rattle.analysis.specs.Uses.{role_in};
 
@@ -23,7 +19,7 @@ use parser::node::Node;
 impl Tables<'_> {
     // The offence of a use of the name that word w is.
     fn name_misuse(&self, usage: NameUse, w: usize) -> Option<usize>
-        ensures { (v : View) (ss : List Symbol) (x : NameTree) → Holds v self.now ss → HoldsPlaces v self.now.records.now → Named v w x → result ≡ earliest_of (told_at (not (suits (kind_in ss x.letters) (role_in usage))) x.place) }
+        ensures { EarliestIn (λ v x w. Named v w x) (λ ss x. told_at (not (suits (kind_in ss x.letters) (role_in usage))) x.place) self.now w result }
     {
         let suited = does_suit(self.kind_of(w), usage);
         told(!suited, place_of(self.records, w))
@@ -57,7 +53,8 @@ impl Tables<'_> {
         }
     }
 
-    // The earliest offence of the elements at node i; a printed row of expressions is one of single elements.
+    // The earliest offence of the elements at node i; a printed row of expressions is one of single elements. The walk of
+    // `elements_offence` over another rule: one walk for both needs a third definition of what elements tell.
     fn elements_misuse(&self, i: usize) -> Option<usize>
         ensures { EarliestIn (RowAt ElementAt) (λ ss es. misused_names ss (each in_element es)) self.now i result }
     {

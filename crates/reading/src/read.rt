@@ -81,7 +81,7 @@ pub fn read(
     ensures { Reads text.now (length table.old) (length names.old) result table.new names.new }
 {
     if names.len() < FEWEST_NAMES {
-        let refusal = ParseRefusal::Sentence(Refusal {
+        let refusal = ParseRefusal::from(Refusal {
             reason: SentenceRefusal::TableTooShort,
             place: 0,
         });

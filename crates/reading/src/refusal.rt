@@ -36,6 +36,7 @@ impl TextRefusal {
     }
 }
 
+// What refuses the sentence refuses the text.
 impl From<ParseRefusal> for TextRefusal {
     ghost from_gives = { λ refused r. r ≡ Sentence refused };
 
@@ -44,6 +45,7 @@ impl From<ParseRefusal> for TextRefusal {
     }
 }
 
+// So does a rule that is broken.
 impl From<Broken> for TextRefusal {
     ghost from_gives = { λ told r. r ≡ Names told };
 

@@ -1,4 +1,5 @@
-// The type that a name is declared to have. That it has none is the third answer, shown as the other two are.
+// The type that a name is declared to have. To have none is an answer with rules of its own, arithmetic but stored as it
+// is, so it is a case here and no `Option`.
 
 #[derive(Clone, Copy, PartialEq, Eq, Debug)]
 pub enum ValueType {

@@ -1,12 +1,13 @@
-use Rattle.std.proofs.Common.{◌≡◌, ◌<◌, ℤ, pos, ◌+ℤ◌, ◌-ℤ◌, ◌≤ℤ◌, arith, w64, to_z, of_z, rules}
+use Rattle.std.proofs.Common.{◌≡◌, ◌<◌, ℤ, pos, ◌+ℤ◌, ◌-ℤ◌, arith, w64, to_z, of_z, rules, ◌∙◌}
+use Rattle.std.specs.Result.{result_unwrap_or}
 use Rattle.std.proofs.lemmas.Int.{ints}
 use Rattle.parser.specs.Records.{bound_in}
 use Rattle.symbols.specs.Symbols.{bound_value}
-use Rattle.analysis.proofs.Extents.{InRange, bound_range, extent_is, extent_small}
+use Rattle.analysis.proofs.Extents.{InRange, bound_range, extent_is}
 use Rattle.analysis.proofs.cells.extent.Goals as goal
 
-pub returns-else-n-lt0 : goal.returns-else-n-lt0
-returns-else-n-lt0 c =
+pub returns-clause-count : goal.returns-clause-count
+returns-clause-count c =
     let p : c.args.low.size < 4294967296 = search rules in
     let q : c.args.high.size < 4294967296 = search rules in
     let a : ℤ = bound_value (bound_in c.args.low) in
@@ -21,5 +22,5 @@ returns-else-n-lt0 c =
     let f : c.value-2.result ≡ a = c.value-2.ensures in
     let z : ℤ = to_z w64 (of_z w64 (to_z w64 (of_z w64 (to_z w64 (of_z w64 c.value.result) -ℤ to_z w64 (of_z w64 c.value-2.result))) +ℤ pos 1)) in
     let is : z ≡ b -ℤ a +ℤ pos 1 = omega (arith, ints) in
-    let from_zero : pos 0 ≤ℤ z = omega (arith, ints) in
-    record { count = extent_is a b z is from_zero; small = extent_small a b z is from_zero r s }
+    let read : c.unwrap_or.result ≡ result_unwrap_or c.try_from.result 0 = search rules in
+    read ∙ extent_is a b z is r s c.try_from.result c.try_from.ensures
