@@ -8,3 +8,4 @@ pub mod SettingWords
 pub mod Captions
 pub mod Outlines
 pub mod SymbolLines
+pub mod Sources

@@ -5,11 +5,11 @@ use Rattle.std.specs.List.{flat_map}
 use Rattle.parser.specs.declared.table.Record.{Record}
 use Rattle.analysis.specs.Letters.{word_letters}
 
--- A word past the table has none.
+-- They are the letters of the word, as the crate analysis finds them. A word past the table has none.
 abbrev pub name_letters : List ℕ → List Record → ℕ → List ℕ
 name_letters text rs w = word_letters text rs w
 
--- They as text: each byte is the character of its code. Of a name's letters, which are ASCII, the text has just these bytes.
+-- Letters as text: each byte is the character of its code. A name's letters are ASCII, so the text has just their bytes.
 abbrev pub letters_shown : List ℕ → List ℕ
 letters_shown x = flat_map encode_utf8 x
 

@@ -2,9 +2,10 @@
 
 ghost use Rattle.std.specs.Prelude.{◌≡◌, Some};
 ghost use Rattle.words.specs.Reading.{Spells};
-ghost use Rattle.words.specs.Token.{relation, sign};
+ghost use Rattle.words.specs.Token.{relation};
 ghost use Rattle.grammar.specs.Classes.{operator_token};
-ghost use Rattle.reports.specs.Captions.{sign_shown, operator_shown, relation_shown, prefix_shown, bound_shown, node_shown};
+ghost use Rattle.reports.specs.Captions.{sign_shown, operator_shown, relation_shown, prefix_shown, bound_shown};
+ghost use Rattle.reports.specs.Sources.{node_shown_in};
 
 use crate::source::Source;
 use crate::worded::Worded;
@@ -95,7 +96,7 @@ pub struct Caption<'a> {
 }
 
 impl fmt::Display for Caption<'_> {
-    ghost output = { λ c. Some (node_shown c.source.text.now c.source.records.now c.node) };
+    ghost output = { λ c. Some (node_shown_in c.source c.node) };
 
     fn fmt<W: fmt::Write>(&self, f: &mut fmt::Formatter<W>) -> fmt::Result {
         let source = self.source;

@@ -2,7 +2,7 @@
 
 ghost use Rattle.std.specs.Prelude.{◌≡◌, Some};
 ghost use Rattle.reports.specs.Cells.{line_cells, figures_in, cell_shown};
-ghost use Rattle.reports.specs.Names.{name_shown};
+ghost use Rattle.reports.specs.Sources.{name_shown_in};
 
 use crate::part::part;
 use crate::source::Source;
@@ -54,7 +54,7 @@ pub struct CellLabel<'a> {
 }
 
 impl fmt::Display for CellLabel<'_> {
-    ghost output = { λ c. Some (cell_shown (name_shown c.source.text.now c.source.records.now c.line.word) c.line.kind c.subscript) };
+    ghost output = { λ c. Some (cell_shown (name_shown_in c.source c.line.word) c.line.kind c.subscript) };
 
     fn fmt<W: fmt::Write>(&self, f: &mut fmt::Formatter<W>) -> fmt::Result {
         let name = self.source.name(self.line.word);

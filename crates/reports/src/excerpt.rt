@@ -1,6 +1,6 @@
 // A place of a text for people: its line and column, the line of text, and a caret under the place.
 
-ghost use Rattle.std.specs.Prelude.{◌≡◌, ◌≤◌, ◌-◌, [], cond, drop, take, Some};
+ghost use Rattle.std.specs.Prelude.{◌≡◌, ◌≤◌, [], cond, Some};
 ghost use Rattle.std.specs.List.{flat_map};
 ghost use Rattle.reading.specs.Refusal.{number, place as refusal_place};
 ghost use Rattle.reports.specs.Excerpts.{blanks_for, CaretLawOf, excerpt_of, part_of, refusal_of, shown_byte, words_of_place};
@@ -15,7 +15,7 @@ use reading::refusal::TextRefusal;
 use std::fmt;
 
 // The part of a line that is shown: the bytes from `from` up to `to`.
-#[derive(Clone, Copy)]
+#[derive(Clone, Copy, PartialEq, Eq, Debug)]
 pub struct Window {
     pub from: usize,
     pub to: usize,
@@ -67,7 +67,8 @@ impl fmt::Display for Blanks {
     }
 }
 
-// Each byte as it is shown. This and the next are two types, since a closure's contract gives no output.
+// Each byte as it is shown. This and the next are two types: the bytes that a `Display` states cannot be those of a
+// closure that it holds.
 #[derive(Clone, Copy)]
 struct ShownBytes<'a>(&'a [u8]);
 

@@ -2,9 +2,9 @@
 
 ghost use Rattle.std.specs.Prelude.{◌≡◌, Ok, Err, Some, IfOk, MatchResult};
 ghost use Rattle.std.specs.Str.{bytes_eq};
-ghost use Rattle.reports.specs.Names.{name_letters};
-ghost use Rattle.reports.specs.SettingWords.{setting_cell, setting_figure, subscript_of, word_setting};
-ghost use Rattle.reports.specs.Settings.{line_named, line_setting, name_setting, setting_error};
+ghost use Rattle.reports.specs.SettingWords.{setting_figure, subscript_of};
+ghost use Rattle.reports.specs.Settings.{line_setting, setting_error};
+ghost use Rattle.reports.specs.Sources.{line_named_in, name_letters_in, name_setting_in, setting_cell_in, word_setting_in};
 
 use crate::source::Source;
 use crate::symbol_table::SymbolTable;
@@ -80,8 +80,8 @@ pub fn cell_of_line(line: NameRecord, subscript: Option<i64>) -> Result<usize, S
 }
 
 // Does the name of the word w have these letters?
-fn has_letters(source: Source, w: usize, name: &[u8]) -> bool
-    ensures { result ≡ bytes_eq (name_letters source.entry.text.now source.entry.records.now w) name.now }
+fn has_letters(source: Source<'_>, w: usize, name: &[u8]) -> bool
+    ensures { result ≡ bytes_eq (name_letters_in source.entry w) name.now }
 {
     source.name(w).letters == name
 }
@@ -96,7 +96,7 @@ fn subscript_in(word: &str) -> Option<i64>
 impl SymbolTable<'_> {
     // The first line of the name with these letters.
     fn line_of(self, name: &[u8]) -> Option<NameRecord>
-        ensures { result ≡ line_named self.entry.source.text.now self.entry.source.records.now self.entry.lines.now name.now }
+        ensures { result ≡ line_named_in self.entry name.now }
     {
         let source = self.source;
         self.lines
@@ -107,7 +107,7 @@ impl SymbolTable<'_> {
 
     // The cell of the name with these letters.
     pub fn cell_of_name(self, name: &[u8], subscript: Option<i64>) -> Result<usize, SettingError>
-        ensures { result ≡ name_setting self.entry.source.text.now self.entry.source.records.now self.entry.lines.now name.now subscript }
+        ensures { result ≡ name_setting_in self.entry name.now subscript }
     {
         let line = self.line_of(name).ok_or(SettingError::NoSuchName)?;
         cell_of_line(line, subscript)
@@ -115,7 +115,7 @@ impl SymbolTable<'_> {
 
     // The cell that `NAME` or `NAME[SUBSCRIPT]` names.
     pub fn cell_of_word(self, word: &str) -> Result<usize, SettingError>
-        ensures { result ≡ word_setting self.entry.source.text.now self.entry.source.records.now self.entry.lines.now word.now }
+        ensures { result ≡ word_setting_in self.entry word.now }
     {
         match word.split_once('[') {
             None => self.cell_of_name(word.as_bytes(), None),
@@ -128,7 +128,7 @@ impl SymbolTable<'_> {
 
     // The cell and the figure's words of a setting.
     pub fn read_setting(self, word: &str) -> Result<(usize, &str), SettingError>
-        ensures cell { MatchResult result (λ x. setting_cell self.entry.source.text.now self.entry.source.records.now self.entry.lines.now word.now ≡ Ok x.0) (λ e. setting_cell self.entry.source.text.now self.entry.source.records.now self.entry.lines.now word.now ≡ Err e) }
+        ensures cell { MatchResult result (λ x. setting_cell_in self.entry word.now ≡ Ok x.0) (λ e. setting_cell_in self.entry word.now ≡ Err e) }
         ensures figure { IfOk result (λ x. x.1.now ≡ setting_figure word.now) }
     {
         let (target, figure) = word.split_once('=').ok_or(SettingError::NoFigure)?;

@@ -3,7 +3,8 @@
 ghost use Rattle.std.specs.Prelude.{◌≡◌, IfOk, Some};
 ghost use Rattle.std.specs.Str.{IsAscii};
 ghost use Rattle.std.specs.String.{string_bytes};
-ghost use Rattle.reports.specs.Names.{name_letters, name_shown, letters_shown};
+ghost use Rattle.reports.specs.Names.{letters_shown};
+ghost use Rattle.reports.specs.Sources.{name_letters_in, name_shown_in};
 
 use crate::each::write_each;
 use analysis::letters::letters_of;
@@ -11,7 +12,7 @@ use parser::table::Record;
 use std::alloc::{AllocError, Global};
 use std::fmt;
 
-// What a report is told of.
+// What a report speaks of: a text and its work table.
 #[derive(Clone, Copy)]
 pub struct Source<'a> {
     pub text: &'a [u8],
@@ -21,17 +22,17 @@ pub struct Source<'a> {
 impl<'a> Source<'a> {
     // The name that word w of the text is.
     pub fn name(self, w: usize) -> Name<'a>
-        ensures { result.letters.now ≡ name_letters self.entry.text.now self.entry.records.now w }
+        ensures { result.letters.now ≡ name_letters_in self.entry w }
     {
         Name {
             letters: letters_of(self.text, self.records, w),
         }
     }
 
-    // The same as text.
+    // The name as a text of its own, in memory.
     pub fn name_text(self, heap: Global, w: usize) -> Result<String, AllocError>
-        ensures text { IfOk result (λ s. string_bytes s ≡ name_shown self.entry.text.now self.entry.records.now w) }
-        ensures letters { IsAscii (name_letters self.entry.text.now self.entry.records.now w) → IfOk result (λ s. string_bytes s ≡ name_letters self.entry.text.now self.entry.records.now w) }
+        ensures text { IfOk result (λ s. string_bytes s ≡ name_shown_in self.entry w) }
+        ensures letters { IsAscii (name_letters_in self.entry w) → IfOk result (λ s. string_bytes s ≡ name_letters_in self.entry w) }
     {
         self.name(w).to_string(heap)
     }

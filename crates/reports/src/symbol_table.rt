@@ -2,7 +2,8 @@
 
 ghost use Rattle.std.specs.Prelude.{◌≡◌, IfOk, Some};
 ghost use Rattle.std.specs.String.{string_bytes};
-ghost use Rattle.reports.specs.SymbolLines.{kind_shown, type_shown, cells_shown, symbol_shown, table_shown};
+ghost use Rattle.reports.specs.SymbolLines.{kind_shown, type_shown, cells_shown};
+ghost use Rattle.reports.specs.Sources.{symbol_shown_in, table_shown_in};
 
 use crate::cells::{Cells, cells_of};
 use crate::source::Source;
@@ -62,7 +63,7 @@ pub struct SymbolTable<'a> {
 impl SymbolTable<'_> {
     // The heads of the columns, and the lines.
     pub fn columns(self, heap: Global) -> Result<String, AllocError>
-        ensures { IfOk result (λ s. string_bytes s ≡ table_shown self.entry.source.text.now self.entry.source.records.now self.entry.lines.now) }
+        ensures { IfOk result (λ s. string_bytes s ≡ table_shown_in self.entry) }
     {
         let mut out = format!(in heap;
             "{:<16}  {:<8}  {:<7}  {:>5}  {:>5}  {:>5}\n",
@@ -77,10 +78,10 @@ impl SymbolTable<'_> {
 }
 
 // A line of the table in words: name, kind, type, first cell, count of cells, low bound.
-pub fn symbol_line(heap: Global, source: Source, line: NameRecord) -> Result<String, AllocError>
-    ensures { IfOk result (λ s. string_bytes s ≡ symbol_shown source.entry.text.now source.entry.records.now line) }
+pub fn symbol_line(heap: Global, source: Source<'_>, line: NameRecord) -> Result<String, AllocError>
+    ensures { IfOk result (λ s. string_bytes s ≡ symbol_shown_in source.entry line) }
 {
-    // A text, since only a text is filled up to a column.
+    // A text: a value is filled up by `pad`, which takes a text, and a name's letters are bytes.
     let name = source.name_text(heap, line.word)?;
     let kind = line.kind.wording();
     let value_type = line.value_type.wording();

@@ -3,7 +3,8 @@
 ghost use Rattle.std.specs.Prelude.{◌≡◌, ◌*◌, ◌++◌, length, replicate, IfOk, Some};
 ghost use Rattle.std.specs.List.{filter_map};
 ghost use Rattle.std.specs.String.{string_bytes};
-ghost use Rattle.reports.specs.Outlines.{parts_of, outline_of, OutlineLaw};
+ghost use Rattle.reports.specs.Outlines.{parts_of};
+ghost use Rattle.reports.specs.Sources.{outline_in, OutlineLawIn};
 
 use crate::caption::Caption;
 use crate::source::Source;
@@ -13,6 +14,7 @@ use std::alloc::AllocError;
 use std::fmt;
 
 // The parts of a node, in the order of the text.
+// The crate analysis lists the same parts, of which it asks only whether they stand before their node.
 fn parts(node: Node) -> [Option<usize>; 3]
     ensures places { length result ≡ 3 }
     ensures parts { filter_map (λ o. o) result ≡ parts_of node }
@@ -55,10 +57,16 @@ impl fmt::Display for Indent {
 
 // Adds the lines of the tree at node i, indented by depth. The parts of a row stand side by side. Nodes go by their
 // numbers, since the tree lies in the work table, which is lent.
+// It adds to a text and is no `Display`: it calls itself for each part, and all lines go to the one text.
 #[tactic(auto, using(crate::proofs::OutlineSteps::outline_step))]
-pub fn outline(out: &mut String, source: Source, i: usize, depth: usize) -> Result<(), AllocError>
-    ensures law { OutlineLaw source.entry.text.now source.entry.records.now }
-    ensures lines { IfOk result (λ u. string_bytes out.new ≡ string_bytes out.old ++ outline_of source.entry.text.now source.entry.records.now depth i) }
+pub fn outline(
+    out: &mut String,
+    source: Source<'_>,
+    i: usize,
+    depth: usize,
+) -> Result<(), AllocError>
+    ensures law { OutlineLawIn source.entry }
+    ensures lines { IfOk result (λ u. string_bytes out.new ≡ string_bytes out.old ++ outline_in source.entry depth i) }
 {
     let node = node_of(source.records, i);
     let below = match node {

@@ -9,6 +9,7 @@ use std::test::Fail;
 use symbols::refusal::NameRefusal;
 use words::refusal::{Refusal as RefusedWord, WordRefusal};
 
+// A table that is a constant calls no `from`, so a case has the reason and the place apart.
 #[derive(Clone, Copy)]
 enum Reason {
     Word(WordRefusal),
@@ -105,13 +106,9 @@ const CASES: [Case; 7] = [
 // The refusal for a reason, told at this byte.
 fn refusal_at(reason: Reason, place: usize) -> TextRefusal {
     match reason {
-        Reason::Word(reason) => {
-            TextRefusal::Sentence(ParseRefusal::Word(RefusedWord { reason, place }))
-        }
-        Reason::Sentence(reason) => {
-            TextRefusal::Sentence(ParseRefusal::Sentence(RefusedSentence { reason, place }))
-        }
-        Reason::Name(rule) => TextRefusal::Names(Broken { rule, place }),
+        Reason::Word(reason) => ParseRefusal::from(RefusedWord { reason, place }).into(),
+        Reason::Sentence(reason) => ParseRefusal::from(RefusedSentence { reason, place }).into(),
+        Reason::Name(rule) => Broken { rule, place }.into(),
     }
 }
 

@@ -9,8 +9,7 @@ use symbols::value_type::ValueType;
 use words::token::{Sign, Token};
 use words::word::Word;
 
-pub(crate) const TEXT: &[u8] =
-    b"array(rate[-2:1]); boolean(done); switch next := (more); more: x := rate[-1]";
+const TEXT: &[u8] = b"array(rate[-2:1]); boolean(done); switch next := (more); more: x := rate[-1]";
 
 fn name_record(place: usize, length: usize, symbol: usize) -> Record {
     Record {
