@@ -48,4 +48,3 @@ amount_digits n = decimal (n / 100) ++ 46 ∷ (48 + n % 100 / 10) ∷ (48 + n % 
 abbrev pub amount_text : ℤ → List ℕ
 amount_text (pos n) = amount_digits n
 amount_text (negsuc n) = 45 ∷ amount_digits (suc n)
-
