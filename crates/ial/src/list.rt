@@ -68,7 +68,7 @@ impl fmt::Display for OperandInWords {
             Operand::TextPlace => write!(f, "text {x}"),
             Operand::Constant | Operand::RowCount => write!(f, "{x}"),
             Operand::Cell => write!(f, "cell {x}"),
-            Operand::CellRange => write!(f, "{}", Cells(Descriptor::unpack(x))),
+            Operand::CellRange => write!(f, "{}", Cells(Descriptor::from(x))),
             Operand::Target => write!(f, "to {x}"),
         }
     }

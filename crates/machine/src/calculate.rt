@@ -67,8 +67,8 @@ pub(crate) fn element<F: Figures>(operand: u64, subscript: F) -> Result<usize, R
     ensures cell { attempt result (λ e. e) ≡ element_of F.kind operand (F.means subscript) }
     ensures below { IfOk result (λ e. e < (unpacked operand).first + (unpacked operand).count) }
 {
-    let array = Descriptor::unpack(operand);
-    let offset = subscript.nearest() as i64 + 10_000 - array.biased_low as i64;
+    let array = Descriptor::from(operand);
+    let offset = i64::from(subscript.nearest()) + 10_000 - array.biased_low as i64;
     if offset < 0 || offset >= array.count as i64 {
         return Err(RunFault::Subscript);
     }

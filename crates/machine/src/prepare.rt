@@ -1,10 +1,10 @@
 // Calls on a ready run: prepare, enter, ask, start.
 
-ghost use Rattle.std.specs.Prelude.{◌≡◌, [], ◌∷◌, map, length, None, ◌==◌, nat_lt};
+ghost use Rattle.std.specs.Prelude.{◌≡◌, ◌<◌, [], ◌∷◌, map, length, None, ◌==◌, nat_lt, IfOk};
 ghost use Rattle.code.specs.CheckedCode.{code_in};
-ghost use Rattle.machine.specs.Refusals.{answer};
+ghost use Rattle.machine.specs.Refusals.{answer, refusal_of};
 ghost use Rattle.machine.specs.RunViews.{progress_of, ready_code};
-ghost use Rattle.machine.specs.Runs.{Asked, Entered, Prepared, filled, first_progress};
+ghost use Rattle.machine.specs.Runs.{Asked, Entered, Prepared, filled, first_progress, named_refusal};
 
 use crate::operands::load;
 use crate::ready::Ready;
@@ -55,6 +55,21 @@ fn fill_with_zero<F: Figures>(cells: &mut [F])
     }
 }
 
+// Refuses cells that are not just as many as the code has, and a number that is not that of a named cell.
+fn named_cell<F: Figures>(code: &Checked<'_>, cells: &[F], cell: usize) -> Result<(), Refusal>
+    ensures figures { named_refusal (code_in code.now) cells.now cell ≡ refusal_of result }
+    ensures values { named_refusal (code_in code.now) (map F.means cells.now) cell ≡ refusal_of result }
+    ensures inside { IfOk result (λ _. cell < length cells.now) }
+{
+    if !has_all_cells(code, cells) {
+        return Err(Refusal::CellCount);
+    }
+    if !is_named(code, cell) {
+        return Err(Refusal::NotNamed);
+    }
+    Ok(())
+}
+
 // The figure of a named cell.
 pub(crate) fn ask_cell<F: Figures>(
     code: &Checked<'_>,
@@ -63,12 +78,7 @@ pub(crate) fn ask_cell<F: Figures>(
 ) -> Result<F, Refusal>
     ensures { Asked (code_in code.now) (map F.means cells.now) cell (answer F.means result) }
 {
-    if !has_all_cells(code, cells) {
-        return Err(Refusal::CellCount);
-    }
-    if !is_named(code, cell) {
-        return Err(Refusal::NotNamed);
-    }
+    named_cell(code, cells, cell)?;
     Ok(load(cells, cell))
 }
 
@@ -86,12 +96,7 @@ impl<'a> Ready<'a> {
     pub fn enter<F: Figures>(&self, cells: &mut [F], cell: usize, figure: F) -> Result<(), Refusal>
         ensures { Entered (ready_code self.now) cells.old cell figure (answer (λ _. tt) result) cells.new }
     {
-        if !has_all_cells(&self.code, cells) {
-            return Err(Refusal::CellCount);
-        }
-        if !is_named(&self.code, cell) {
-            return Err(Refusal::NotNamed);
-        }
+        named_cell(&self.code, cells, cell)?;
         cells[cell] = figure;
         Ok(())
     }

@@ -9,7 +9,7 @@ use Rattle.machine.proofs.calculate.element.Goals.{then-offset-lt0-via-then-offs
 pub returns-then-offset-lt0 : goal.returns-then-offset-lt0
 returns-then-offset-lt0 g c =
     let d = unpacked c.args.operand in
-    let same = c.unpack-array.ensures.value in
+    let same = c.from-array.ensures.value in
     let biased = ap (λ a. a.biased_low) same in
     let count = ap (λ a. a.count) same in
     let number = c.nearest.ensures.value in
