@@ -2,10 +2,11 @@
 
 ghost use Rattle.std.specs.Prelude.{◌≡◌, ◌+◌, ◌*◌, ◌<◌, ◌≤◌, false, Some};
 ghost use Rattle.grammar.specs.Classes.{heads, the_keyword};
-ghost use Rattle.grammar.specs.Grammar.{a, row, statement};
+ghost use Rattle.grammar.specs.Grammar.{row, statement};
 ghost use Rattle.grammar.specs.Parser.{goto, begin};
 ghost use Rattle.parser.specs.Records.{ahead, RowAt, StatementAt};
 ghost use Rattle.parser.specs.Promises.{Moves, Reads, here};
+ghost use Rattle.parser.specs.Pieces.{ReadsPart};
 ghost use Rattle.parser.specs.Labels.{is_label, LabelsPassed, LabelsMade};
 
 use crate::element::ElementPart;
@@ -49,7 +50,7 @@ impl Parser<'_> {
     #[cycle(block_conditional_repetition_statement_statements_unlabelled)]
     pub(crate) fn statement(&mut self, levels: usize) -> Result<usize, Refusal>
         ensures moves { Moves self.old self.new }
-        ensures reads { Reads StatementAt levels self.old self.new (here (goto (begin (a statement)))) result }
+        ensures reads { ReadsPart statement levels self.old self.new result }
     {
         let first = self.at;
         let labels = self.skip_labels();
@@ -62,7 +63,7 @@ impl Parser<'_> {
     fn unlabelled(&mut self, levels: usize) -> Result<usize, Refusal>
         requires plain { is_label (ahead self.old) ≡ false }
         ensures moves { Moves self.old self.new }
-        ensures reads { Reads StatementAt levels self.old self.new (here (goto (begin (a statement)))) result }
+        ensures reads { ReadsPart statement levels self.old self.new result }
     {
         match self.next_keyword() {
             Some(Keyword::If) => self.conditional(levels),
@@ -85,7 +86,7 @@ impl Parser<'_> {
     fn conditional(&mut self, levels: usize) -> Result<usize, Refusal>
         requires begins { heads (the_keyword Keyword.If) (ahead self.old) ≡ Some tt }
         ensures moves { Moves self.old self.new }
-        ensures reads { Reads StatementAt levels self.old self.new (here (goto (begin (a statement)))) result }
+        ensures reads { ReadsPart statement levels self.old self.new result }
     {
         let place = self.place();
         let inner = self.open(levels)?;
@@ -100,7 +101,7 @@ impl Parser<'_> {
     fn repetition(&mut self, levels: usize) -> Result<usize, Refusal>
         requires begins { heads (the_keyword Keyword.For) (ahead self.old) ≡ Some tt }
         ensures moves { Moves self.old self.new }
-        ensures reads { Reads StatementAt levels self.old self.new (here (goto (begin (a statement)))) result }
+        ensures reads { ReadsPart statement levels self.old self.new result }
     {
         let place = self.place();
         let inner = self.open(levels)?;
@@ -117,7 +118,7 @@ impl Parser<'_> {
     fn block(&mut self, levels: usize) -> Result<usize, Refusal>
         requires begins { heads (the_keyword Keyword.Begin) (ahead self.old) ≡ Some tt }
         ensures moves { Moves self.old self.new }
-        ensures reads { Reads StatementAt levels self.old self.new (here (goto (begin (a statement)))) result }
+        ensures reads { ReadsPart statement levels self.old self.new result }
     {
         let inner = self.open(levels)?;
         let all = self.statements(inner)?;

@@ -2,11 +2,11 @@
 
 ghost use Rattle.std.specs.Prelude.{ℕ};
 ghost use Rattle.grammar.specs.Tree.{Row, Name, Item};
-ghost use Rattle.grammar.specs.Grammar.{a, identifier, group};
-ghost use Rattle.grammar.specs.Parser.{goto, begin, done, names_script};
-ghost use Rattle.parser.specs.Records.{NameAt, RowAt, GroupAt};
-ghost use Rattle.parser.specs.Promises.{Moves, Reads, Passes, here};
-ghost use Rattle.parser.specs.Pieces.{ReadsBound};
+ghost use Rattle.grammar.specs.Grammar.{identifier, group};
+ghost use Rattle.grammar.specs.Parser.{done, names_script};
+ghost use Rattle.parser.specs.Records.{NameAt, RowAt};
+ghost use Rattle.parser.specs.Promises.{Moves, Passes, here};
+ghost use Rattle.parser.specs.Pieces.{ReadsBound, ReadsPart};
 
 use crate::class::{Numbers, Signs};
 use crate::node::{Bound, Node};
@@ -49,7 +49,7 @@ impl Parser<'_> {
     // A name.
     pub(crate) fn name(&mut self) -> Result<usize, Refusal>
         ensures moves { Moves self.old self.new }
-        ensures reads { (levels : ℕ) → Reads NameAt levels self.old self.new (here (goto (begin (a identifier)))) result }
+        ensures reads { (levels : ℕ) → ReadsPart identifier levels self.old self.new result }
     {
         let word = self.expect_name()?;
         Ok(self.make(Node::Simple(word)))
@@ -68,7 +68,7 @@ impl Parser<'_> {
     // Names of arrays, and their bounds in square brackets.
     fn group(&mut self, levels: usize) -> Result<usize, Refusal>
         ensures moves { Moves self.old self.new }
-        ensures reads { Reads GroupAt levels self.old self.new (here (goto (begin (a group)))) result }
+        ensures reads { ReadsPart group levels self.old self.new result }
     {
         let names = self.row::<NamePart>(levels)?;
         let bracket = self.place();

@@ -1,9 +1,8 @@
 // The elements of a for's list, and what rows of them and of expressions are made of.
 
-ghost use Rattle.grammar.specs.Grammar.{a, exp, element};
-ghost use Rattle.grammar.specs.Parser.{goto, begin};
-ghost use Rattle.parser.specs.Records.{ElementAt};
-ghost use Rattle.parser.specs.Promises.{Moves, Reads, here};
+ghost use Rattle.grammar.specs.Grammar.{exp, element};
+ghost use Rattle.parser.specs.Promises.{Moves};
+ghost use Rattle.parser.specs.Pieces.{ReadsPart};
 
 use crate::node::Node;
 use crate::refusal::Refusal;
@@ -45,7 +44,7 @@ impl Parser<'_> {
     // An expression, or a progression: from, step in brackets, limit.
     fn element(&mut self, levels: usize) -> Result<usize, Refusal>
         ensures moves { Moves self.old self.new }
-        ensures reads { Reads ElementAt levels self.old self.new (here (goto (begin (a element)))) result }
+        ensures reads { ReadsPart element levels self.old self.new result }
     {
         let from = self.expression(1, levels)?;
         if !self.next_is(Mark::OpenRound) {

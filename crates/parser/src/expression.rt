@@ -2,11 +2,12 @@
 
 ghost use Rattle.std.specs.Prelude.{◌≡◌, ◌<◌, Some};
 ghost use Rattle.grammar.specs.Classes.{heads, the_mark};
-ghost use Rattle.grammar.specs.Grammar.{a, ranked, factor, variable};
-ghost use Rattle.grammar.specs.Parser.{goto, begin, operators};
+ghost use Rattle.grammar.specs.Grammar.{ranked, factor, variable};
+ghost use Rattle.grammar.specs.Parser.{goto, operators};
 ghost use Rattle.grammar.specs.Tree.{Exp};
-ghost use Rattle.parser.specs.Records.{ahead, view, ExpAt, VariableAt};
+ghost use Rattle.parser.specs.Records.{ahead, view, ExpAt};
 ghost use Rattle.parser.specs.Promises.{Moves, Reads, here};
+ghost use Rattle.parser.specs.Pieces.{ReadsPart};
 
 use crate::class::{Numbers, Operators, Prefixes, Relations};
 use crate::node::Node;
@@ -19,7 +20,7 @@ impl Parser<'_> {
     #[cycle(bracket_expression_factor_operated_variable)]
     pub(crate) fn expression(&mut self, rank: usize, levels: usize) -> Result<usize, Refusal>
         ensures moves { Moves self.old self.new }
-        ensures reads { Reads ExpAt levels self.old self.new (here (goto (begin (a (ranked rank))))) result }
+        ensures reads { ReadsPart (ranked rank) levels self.old self.new result }
     {
         let place = self.place();
         if let Some(o) = self.take(Prefixes { rank }) {
@@ -58,7 +59,7 @@ impl Parser<'_> {
     #[cycle(bracket_expression_factor_operated_variable)]
     fn factor(&mut self, levels: usize) -> Result<usize, Refusal>
         ensures moves { Moves self.old self.new }
-        ensures reads { Reads ExpAt levels self.old self.new (here (goto (begin (a factor)))) result }
+        ensures reads { ReadsPart factor levels self.old self.new result }
     {
         if self.next_is(Mark::OpenRound) {
             return self.bracket(levels);
@@ -74,7 +75,7 @@ impl Parser<'_> {
     fn bracket(&mut self, levels: usize) -> Result<usize, Refusal>
         requires opens { heads (the_mark Mark.OpenRound) (ahead self.old) ≡ Some tt }
         ensures moves { Moves self.old self.new }
-        ensures reads { Reads ExpAt levels self.old self.new (here (goto (begin (a factor)))) result }
+        ensures reads { ReadsPart factor levels self.old self.new result }
     {
         let place = self.place();
         let inner = self.open(levels)?;
@@ -92,7 +93,7 @@ impl Parser<'_> {
     #[cycle(bracket_expression_factor_operated_variable)]
     pub(crate) fn variable(&mut self, levels: usize) -> Result<usize, Refusal>
         ensures moves { Moves self.old self.new }
-        ensures reads { Reads VariableAt levels self.old self.new (here (goto (begin (a variable)))) result }
+        ensures reads { ReadsPart variable levels self.old self.new result }
     {
         let name = self.expect_name()?;
         if !self.next_is(Mark::OpenSquare) {

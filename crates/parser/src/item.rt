@@ -5,7 +5,8 @@ ghost use Rattle.grammar.specs.Classes.{heads, the_keyword};
 ghost use Rattle.grammar.specs.Grammar.{a, item};
 ghost use Rattle.grammar.specs.Parser.{goto, begin};
 ghost use Rattle.parser.specs.Records.{ahead, Item_at};
-ghost use Rattle.parser.specs.Promises.{Moves, Read, Reads, here};
+ghost use Rattle.parser.specs.Promises.{Moves, Read, here};
+ghost use Rattle.parser.specs.Pieces.{ReadsPart};
 ghost use Rattle.parser.specs.Whole.{ReadsProgram};
 
 use crate::declaration::GroupPart;
@@ -35,7 +36,7 @@ impl Parser<'_> {
     // A comment, a declaration or a statement, by its first word.
     fn item(&mut self, levels: usize) -> Result<usize, Refusal>
         ensures moves { Moves self.old self.new }
-        ensures reads { Reads Item_at levels self.old self.new (here (goto (begin (a item)))) result }
+        ensures reads { ReadsPart item levels self.old self.new result }
     {
         match self.next_keyword() {
             Some(Keyword::Comment) => Ok(self.comment()),
@@ -61,7 +62,7 @@ impl Parser<'_> {
     fn integers(&mut self, levels: usize) -> Result<usize, Refusal>
         requires begins { heads (the_keyword Keyword.Integer) (ahead self.old) ≡ Some tt }
         ensures moves { Moves self.old self.new }
-        ensures reads { Reads Item_at levels self.old self.new (here (goto (begin (a item)))) result }
+        ensures reads { ReadsPart item levels self.old self.new result }
     {
         self.skip();
         let names = self.bracketed_names(levels)?;
@@ -73,7 +74,7 @@ impl Parser<'_> {
     fn booleans(&mut self, levels: usize) -> Result<usize, Refusal>
         requires begins { heads (the_keyword Keyword.Boolean) (ahead self.old) ≡ Some tt }
         ensures moves { Moves self.old self.new }
-        ensures reads { Reads Item_at levels self.old self.new (here (goto (begin (a item)))) result }
+        ensures reads { ReadsPart item levels self.old self.new result }
     {
         self.skip();
         let names = self.bracketed_names(levels)?;
@@ -84,7 +85,7 @@ impl Parser<'_> {
     fn arrays(&mut self, levels: usize) -> Result<usize, Refusal>
         requires begins { heads (the_keyword Keyword.Array) (ahead self.old) ≡ Some tt }
         ensures moves { Moves self.old self.new }
-        ensures reads { Reads Item_at levels self.old self.new (here (goto (begin (a item)))) result }
+        ensures reads { ReadsPart item levels self.old self.new result }
     {
         self.skip();
         let inner = self.open_mark(Mark::OpenRound, levels)?;
@@ -97,7 +98,7 @@ impl Parser<'_> {
     fn switch(&mut self, levels: usize) -> Result<usize, Refusal>
         requires begins { heads (the_keyword Keyword.Switch) (ahead self.old) ≡ Some tt }
         ensures moves { Moves self.old self.new }
-        ensures reads { Reads Item_at levels self.old self.new (here (goto (begin (a item)))) result }
+        ensures reads { ReadsPart item levels self.old self.new result }
     {
         self.skip();
         let name = self.expect_name()?;

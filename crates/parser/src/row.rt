@@ -1,10 +1,11 @@
 // Rows of parts, with a separator between any two.
 
 ghost use Rattle.std.specs.Prelude.{◌≡◌};
-ghost use Rattle.grammar.specs.Grammar.{Part, a, row, separator};
+ghost use Rattle.grammar.specs.Grammar.{Part, row, separator};
 ghost use Rattle.grammar.specs.Parser.{goto, begin};
 ghost use Rattle.parser.specs.Records.{RowAt, TreeAt};
 ghost use Rattle.parser.specs.Promises.{Moves, Reads, here};
+ghost use Rattle.parser.specs.Pieces.{ReadsPart};
 
 use crate::node::Node;
 use crate::refusal::Refusal;
@@ -23,7 +24,7 @@ pub(crate) trait RowPart {
     // Reads one of them.
     fn read(parser: &mut Parser<'_>, levels: usize) -> Result<usize, Refusal>
         ensures moves { Moves parser.old parser.new }
-        ensures reads { Reads (TreeAt part) levels parser.old parser.new (here (goto (begin (a part)))) result };
+        ensures reads { ReadsPart part levels parser.old parser.new result };
 }
 
 impl Parser<'_> {

@@ -6,8 +6,8 @@ ghost use Rattle.grammar.specs.Classes.{heads, the_keyword, a_name};
 ghost use Rattle.grammar.specs.Grammar.{Phrase, a, statement};
 ghost use Rattle.grammar.specs.Parser.{goto, begin, Script};
 ghost use Rattle.parser.specs.Records.{ahead, ExpAt, VariableAt, StatementAt};
-ghost use Rattle.parser.specs.Promises.{Moves, Read, Reads, Passes, here, instead};
-ghost use Rattle.parser.specs.Pieces.{subscript_script, assigning};
+ghost use Rattle.parser.specs.Promises.{Moves, Read, Passes, here, instead};
+ghost use Rattle.parser.specs.Pieces.{subscript_script, assigning, ReadsPart};
 ghost use Rattle.parser.specs.Labels.{is_label};
 
 use crate::element::ExpressionPart;
@@ -48,7 +48,7 @@ impl Parser<'_> {
         requires named { Some name ≡ instead self.old.at (heads a_name (ahead self.old)) }
         requires plain { is_label (ahead self.old) ≡ false }
         ensures moves { Moves self.old self.new }
-        ensures reads { Reads StatementAt levels self.old self.new (here (goto (begin (a statement)))) result }
+        ensures reads { ReadsPart statement levels self.old self.new result }
     {
         let target = self.target(name, levels)?;
         self.expect(Mark::Becomes)?;
@@ -60,7 +60,7 @@ impl Parser<'_> {
     pub(crate) fn jump(&mut self, levels: usize) -> Result<usize, Refusal>
         requires begins { heads (the_keyword Keyword.Go) (ahead self.old) ≡ Some tt }
         ensures moves { Moves self.old self.new }
-        ensures reads { Reads StatementAt levels self.old self.new (here (goto (begin (a statement)))) result }
+        ensures reads { ReadsPart statement levels self.old self.new result }
     {
         let place = self.place();
         self.skip();
@@ -77,7 +77,7 @@ impl Parser<'_> {
     pub(crate) fn input(&mut self, levels: usize) -> Result<usize, Refusal>
         requires begins { heads (the_keyword Keyword.In) (ahead self.old) ≡ Some tt }
         ensures moves { Moves self.old self.new }
-        ensures reads { Reads StatementAt levels self.old self.new (here (goto (begin (a statement)))) result }
+        ensures reads { ReadsPart statement levels self.old self.new result }
     {
         let place = self.place();
         self.skip();
@@ -92,7 +92,7 @@ impl Parser<'_> {
     pub(crate) fn print(&mut self, levels: usize) -> Result<usize, Refusal>
         requires begins { heads (the_keyword Keyword.Print) (ahead self.old) ≡ Some tt }
         ensures moves { Moves self.old self.new }
-        ensures reads { Reads StatementAt levels self.old self.new (here (goto (begin (a statement)))) result }
+        ensures reads { ReadsPart statement levels self.old self.new result }
     {
         let place = self.place();
         self.skip();
