@@ -3,7 +3,7 @@ use Rattle.std.proofs.Common.{◌≡◌, ℕ, List, [], ◌∷◌, None, Option,
 use Rattle.symbols.specs.declared.value_type.ValueType.TheVariants.{Integer as IntegerType, Boolean as BooleanType}
 use Rattle.parser.specs.declared.node.Node.{Node}
 use Rattle.parser.specs.declared.node.Node.TheVariants.{More, Labelled, Conditional, Repeated, Integer, Boolean, Array, Switch}
-use Rattle.parser.specs.Records.{View, Named, NameAt, GroupAt, RowAt, Item_at}
+use Rattle.parser.specs.Records.{View, Named, NameAt, GroupAt, RowAt, ItemAt}
 use Rattle.grammar.specs.Tree.{Row, one, Name, Group, value_of, Item, action}
 use Rattle.symbols.specs.Occurrences.{as_label, as_switch, of_type, in_switch, as_variable, Occurrence, at, each, all_at, in_exp, in_element, in_group, in_item}
 use Rattle.analysis.specs.declared.symbol.NameRecord.{NameRecord}
@@ -17,7 +17,7 @@ use Rattle.analysis.proofs.Standing.{Stands, a_row, a_sequence, a_label, a_condi
 
 -- What is heeded in all items that can stand at a node.
 abbrev Heeded : Pass → View → List Name → List Occurrence → ℕ → List NameRecord → List NameRecord → Option ℕ → Type 0
-Heeded p v ns whole a lines lines' r = (t : Row Item) → RowAt Item_at v t a → Heeds p v ns whole (each in_item t) lines lines' r
+Heeded p v ns whole a lines lines' r = (t : Row Item) → RowAt ItemAt v t a → Heeds p v ns whole (each in_item t) lines lines' r
 
 module _ {p : Pass} {v : View} {ns : List Name} {whole : List Occurrence} {i : ℕ} where
   pub heeds_joined : {a b : ℕ} {t : Row Item} {lines lines' lines'' : List NameRecord} {r s : Option ℕ} → Heeded p v ns whole a lines lines' r → Heeded p v ns whole b lines' lines'' s → Stands v i (More a b) t → Heeds p v ns whole (each in_item t) lines lines'' (earlier_of r s)

@@ -2,7 +2,7 @@
 use Rattle.std.proofs.Common.{◌≡◌, ℕ, min, [], ◌∷◌, None, Option, refl}
 use Rattle.parser.specs.declared.node.Node.{Node}
 use Rattle.parser.specs.declared.node.Node.TheVariants.{More, Labelled, Conditional, Repeated}
-use Rattle.parser.specs.Records.{View, RowAt, Item_at}
+use Rattle.parser.specs.Records.{View, RowAt, ItemAt}
 use Rattle.grammar.specs.Tree.{Row, one, Item, action}
 use Rattle.symbols.specs.Occurrences.{each, item_fors}
 use Rattle.analysis.specs.declared.cell_count.CellCount.{CellCount}
@@ -13,7 +13,7 @@ use Rattle.analysis.proofs.Standing.{Stands, a_row, a_sequence, a_label, a_condi
 
 -- What is counted in all items that can stand at a node.
 abbrev Counted : View → ℕ → ℕ → CellCount → Type 0
-Counted v a c r = (t : Row Item) → RowAt Item_at v t a → Counts c (each item_fors t) r
+Counted v a c r = (t : Row Item) → RowAt ItemAt v t a → Counts c (each item_fors t) r
 
 module _ {v : View} {i c : ℕ} where
   pub counts_joined : {a b : ℕ} {t : Row Item} {r s : CellCount} {o : Option ℕ} → Counted v a c r → Counted v b r.cells s → o ≡ earlier_of r.offence s.offence → Stands v i (More a b) t → Counts c (each item_fors t) (record { cells = s.cells; offence = o })

@@ -5,7 +5,7 @@ use Rattle.grammar.specs.Tree.{Row, one, more, Name, labelled, conditional, repe
 use Rattle.parser.specs.declared.node.Node.{Node}
 use Rattle.parser.specs.declared.node.Node.TheVariants.{Simple, More, Labelled, Conditional, Repeated, Assigned, Go, Switched, Input, Printed, Stop, Comment, Integer, Boolean, Array, Switch}
 use Rattle.parser.specs.declared.table.Record.{Record}
-use Rattle.parser.specs.Records.{View, nodes, node, NameAt, GroupAt, RowAt, Item_at}
+use Rattle.parser.specs.Records.{View, nodes, node, NameAt, GroupAt, RowAt, ItemAt}
 use Rattle.analysis.specs.Views.{node_of}
 use Rattle.analysis.specs.Ordered.{are_before, ordered}
 use Rattle.analysis.proofs.Stands.{stands, two_before}
@@ -22,7 +22,7 @@ module _ (rs : List Record) (v : View) (i : ℕ) (n : Node) (held : v.nodes ≡ 
   groups_are (one g) h = found _ h.2.1 (lt-ltb h.2.0 i h.2.2)
   groups_are (more gs g) h = found (More h.0 h.1) h.2 (two_before h.0 h.1 i h.3 h.4)
 
-  pub items_are : (t : Row Item) → RowAt Item_at v t i → node v i ≡ n
+  pub items_are : (t : Row Item) → RowAt ItemAt v t i → node v i ≡ n
   items_are (more ts x) h = found (More h.0 h.1) h.2 (two_before h.0 h.1 i h.3 h.4)
   items_are (one comment) h = found Comment h refl
   items_are (one (integer xs)) h = found (Integer h.0) h.1 (lt-ltb h.0 i h.2)

@@ -6,7 +6,7 @@ use Rattle.grammar.specs.Tree.{Row, one, more, Name, Exp, Variable, Element, Sta
 use Rattle.parser.specs.declared.node.Node.{Node}
 use Rattle.parser.specs.declared.node.Node.TheVariants.{More, Labelled, Conditional, Repeated, Assigned, Go, Switched, Input, Printed, Stop, Comment, Integer, Boolean, Array, Switch}
 use Rattle.parser.specs.declared.table.Record.{Record}
-use Rattle.parser.specs.Records.{View, nodes, node, Named, ExpAt, VariableAt, ElementAt, NameAt, RowAt, Item_at, StatementAt}
+use Rattle.parser.specs.Records.{View, nodes, node, Named, ExpAt, VariableAt, ElementAt, NameAt, RowAt, ItemAt, StatementAt}
 use Rattle.symbols.specs.Occurrences.{each}
 use Rattle.analysis.specs.Views.{node_of}
 use Rattle.analysis.specs.Ordered.{are_before, ordered}
@@ -18,7 +18,7 @@ abbrev pub act : Statement → Row Item
 act s = one (action s)
 
 pub data ItemsNode (v : View) : Node → Row Item → Type 0 where
-  row_at : {a b : ℕ} {ts : Row Item} {x : Item} → RowAt Item_at v ts a → Item_at v x b → ItemsNode v (More a b) (more ts x)
+  row_at : {a b : ℕ} {ts : Row Item} {x : Item} → RowAt ItemAt v ts a → ItemAt v x b → ItemsNode v (More a b) (more ts x)
   sequence_at : {a b : ℕ} {s u : Statement} → StatementAt v s a → StatementAt v u b → ItemsNode v (More a b) (one (action (sequence s u)))
   labelled_at : {w a : ℕ} {x : Name} {s : Statement} → Named v w x → StatementAt v s a → ItemsNode v (Labelled w a) (one (action (labelled x s)))
   conditional_at : {p a b : ℕ} {e : Exp} {s : Statement} → ExpAt v e a → StatementAt v s b → ItemsNode v (Conditional p a b) (one (action (conditional p e s)))
@@ -40,7 +40,7 @@ module _ (rs : List Record) (v : View) (i : ℕ) (n : Node) (held : v.nodes ≡ 
   put : (t : Row Item) (m : Node) → node v i ≡ m → are_before m i ≡ true → ItemsNode v m t → ItemsNode v n t
   put t m q b x = let P : Node → Type 0 = λ k. ItemsNode v k t in subst P (stands rs v i n held is m q b) x
 
-  pub items_node : (t : Row Item) → RowAt Item_at v t i → ItemsNode v n t
+  pub items_node : (t : Row Item) → RowAt ItemAt v t i → ItemsNode v n t
   items_node (more ts x) h = put (more ts x) (More h.0 h.1) h.2 (two_before h.0 h.1 i h.3 h.4) (row_at h.5 h.6)
   items_node (one comment) h = put (one comment) Comment h refl comment_at
   items_node (one (integer xs)) h = put (one (integer xs)) (Integer h.0) h.1 (lt-ltb h.0 i h.2) integer_at
@@ -61,7 +61,7 @@ module _ (rs : List Record) (v : View) (i : ℕ) (n : Node) (held : v.nodes ≡ 
 -- What holds of all items that can stand at a node holds of those that do.
 module _ {v : View} (P : Row Item → Type 0) where
   pub from_joined : {a b : ℕ} {t : Row Item} → ItemsNode v (More a b) t
-      → ((ts : Row Item) (x : Item) → RowAt Item_at v ts a → Item_at v x b → P (more ts x))
+      → ((ts : Row Item) (x : Item) → RowAt ItemAt v ts a → ItemAt v x b → P (more ts x))
       → ((s u : Statement) → StatementAt v s a → StatementAt v u b → P (act (sequence s u))) → P t
   from_joined (row_at {ts = ts} {x = x} h k) f g = f ts x h k
   from_joined (sequence_at {s = s} {u = u} h k) f g = g s u h k
@@ -96,7 +96,7 @@ module _ {v : View} (P : Row Item → Type 0) where
 -- The earliest of two joined parts is the earlier of their earliest, for every rule that goes over sequences part by part.
 module _ {v : View} (f : Item → List ℕ) (parts : (s u : Statement) → f (action (sequence s u)) ≡ f (action s) ++ f (action u)) (r q : Option ℕ) {a b : ℕ} where
   pub earliest_joined : {t : Row Item} → ItemsNode v (More a b) t
-      → ((u : Row Item) → RowAt Item_at v u a → r ≡ earliest_of (each f u)) → ((u : Row Item) → RowAt Item_at v u b → q ≡ earliest_of (each f u))
+      → ((u : Row Item) → RowAt ItemAt v u a → r ≡ earliest_of (each f u)) → ((u : Row Item) → RowAt ItemAt v u b → q ≡ earliest_of (each f u))
       → earlier_of r q ≡ earliest_of (each f t)
   earliest_joined x left right = from_joined (λ t. earlier_of r q ≡ earliest_of (each f t)) x
       (λ ts y h k. both r q (each f ts) (f y) (left ts h) (right (one y) k))

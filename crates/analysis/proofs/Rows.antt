@@ -4,7 +4,7 @@ use Rattle.std.proofs.Common.{◌≡◌, ℕ, ◌<◌, Bool, true, false, List, 
 use Rattle.std.proofs.lemmas.Bool.{both_ways}
 use Rattle.parser.specs.declared.node.Node.{Node}
 use Rattle.parser.specs.declared.node.Node.TheVariants.{Empty, Literal, Simple, Subscripted, Prefixed, Joined, Bracketed, Compared, Progression, More, Labelled, Conditional, Repeated, Assigned, Go, Switched, Input, Printed, Stop, Comment, Integer, Boolean, Array, Group as GroupNode, Switch}
-use Rattle.parser.specs.Records.{View, node, GroupAt, RowAt, Item_at, StatementAt}
+use Rattle.parser.specs.Records.{View, node, GroupAt, RowAt, ItemAt, StatementAt}
 use Rattle.grammar.specs.Tree.{Row, one, more, Group, Statement, labelled, conditional, repeated, assigned, go, switched, input, printed, stop, sequence, Item, comment, integer, boolean, array, switch, action}
 use Rattle.symbols.specs.Occurrences.{each}
 use Rattle.symbols.specs.Rules.{group_bounds, item_bounds}
@@ -58,7 +58,7 @@ is_plain (Switch w a) = true
 
 -- The items at a node: two parts that stand before it, an array declaration, or what has no bounds.
 pub data Items (v : View) (i : ℕ) : Row Item → Type 0 where
-  a_row : {ts : Row Item} {x : Item} (a b : ℕ) → node v i ≡ More a b → a < i → b < i → RowAt Item_at v ts a → Item_at v x b → Items v i (more ts x)
+  a_row : {ts : Row Item} {x : Item} (a b : ℕ) → node v i ≡ More a b → a < i → b < i → RowAt ItemAt v ts a → ItemAt v x b → Items v i (more ts x)
   a_sequence : {s u : Statement} (a b : ℕ) → node v i ≡ More a b → a < i → b < i → StatementAt v s a → StatementAt v u b → Items v i (one (action (sequence s u)))
   arrays : {gs : Row Group} (g : ℕ) → node v i ≡ Array g → RowAt GroupAt v gs g → Items v i (one (array gs))
   no_bounds : {x : Item} → is_plain (node v i) ≡ true → item_bounds x ≡ [] → Items v i (one x)
@@ -66,7 +66,7 @@ pub data Items (v : View) (i : ℕ) : Row Item → Type 0 where
 plain : (v : View) (i : ℕ) (n : Node) → node v i ≡ n → is_plain n ≡ true → is_plain (node v i) ≡ true
 plain v i n e p = ap is_plain e ∙ p
 
-pub items_at : (v : View) (i : ℕ) (t : Row Item) → RowAt Item_at v t i → Items v i t
+pub items_at : (v : View) (i : ℕ) (t : Row Item) → RowAt ItemAt v t i → Items v i t
 items_at v i (more ts x) h = a_row h.0 h.1 h.2 h.3 h.4 h.5 h.6
 items_at v i (one comment) h = no_bounds (plain v i Comment h refl) refl
 items_at v i (one (integer xs)) h = no_bounds (plain v i (Integer h.0) h.1 refl) refl
@@ -86,12 +86,12 @@ items_at v i (one (action (sequence s u))) h = a_sequence h.0 h.1 h.2 h.3 h.4 h.
 
 -- Bounds of items at a node that joins two.
 module _ (v : View) (i a b : ℕ) (joins : node v i ≡ More a b) where
-  pub items_joined : (r s : Option ℕ) → ((t : Row Item) → RowAt Item_at v t a → r ≡ earliest_of (each item_bounds t)) → ((t : Row Item) → RowAt Item_at v t b → s ≡ earliest_of (each item_bounds t)) → {t : Row Item} → Items v i t → earlier_of r s ≡ earliest_of (each item_bounds t)
+  pub items_joined : (r s : Option ℕ) → ((t : Row Item) → RowAt ItemAt v t a → r ≡ earliest_of (each item_bounds t)) → ((t : Row Item) → RowAt ItemAt v t b → s ≡ earliest_of (each item_bounds t)) → {t : Row Item} → Items v i t → earlier_of r s ≡ earliest_of (each item_bounds t)
   items_joined r s left right (a_row {ts} {x} c d n l m h k) =
       let p : c ≡ a = cc in
       let q : d ≡ b = cc in
-      let P : ℕ → Type 0 = λ j. RowAt Item_at v ts j in
-      let Q : ℕ → Type 0 = λ j. Item_at v x j in
+      let P : ℕ → Type 0 = λ j. RowAt ItemAt v ts j in
+      let Q : ℕ → Type 0 = λ j. ItemAt v x j in
       both r s (each item_bounds ts) (item_bounds x) (left ts (subst P p h)) (right (one x) (subst Q q k))
   items_joined r s left right (a_sequence {s = y} {u} c d n l m h k) =
       let p : c ≡ a = cc in

@@ -2,16 +2,16 @@
 use Rattle.std.proofs.Common.{◌≡◌, ℕ, ◌<◌, sym, subst}
 use Rattle.parser.specs.declared.node.Node.{Node}
 use Rattle.parser.specs.declared.node.Node.TheVariants.{More, Labelled, Conditional, Repeated, Assigned, Go, Switched, Input, Printed, Stop, Comment, Integer, Boolean, Array, Switch}
-use Rattle.parser.specs.Records.{View, node, Named, NameAt, GroupAt, RowAt, Item_at}
+use Rattle.parser.specs.Records.{View, node, Named, NameAt, GroupAt, RowAt, ItemAt}
 use Rattle.grammar.specs.Tree.{Row, one, more, Name, Exp, Variable, Element, Group, Statement, labelled, conditional, repeated, assigned, go, switched, input, printed, stop, sequence, Item, comment, integer, boolean, array, switch, action}
 
 -- The items t stand at node i, which is n; their parts that hold statements or names stand before it.
 pub data Stands (v : View) (i : ℕ) : Node → Row Item → Type 0 where
-  a_row : {ts : Row Item} {x : Item} {a b : ℕ} → a < i → b < i → RowAt Item_at v ts a → RowAt Item_at v (one x) b → Stands v i (More a b) (more ts x)
-  a_sequence : {s u : Statement} {a b : ℕ} → a < i → b < i → RowAt Item_at v (one (action s)) a → RowAt Item_at v (one (action u)) b → Stands v i (More a b) (one (action (sequence s u)))
-  a_label : {x : Name} {s : Statement} {w a : ℕ} → Named v w x → a < i → RowAt Item_at v (one (action s)) a → Stands v i (Labelled w a) (one (action (labelled x s)))
-  a_condition : {p : ℕ} {e : Exp} {s : Statement} {a b : ℕ} → b < i → RowAt Item_at v (one (action s)) b → Stands v i (Conditional p a b) (one (action (conditional p e s)))
-  a_repetition : {p : ℕ} {x : Name} {es : Row Element} {s : Statement} {w a b : ℕ} → b < i → RowAt Item_at v (one (action s)) b → Stands v i (Repeated p w a b) (one (action (repeated p x es s)))
+  a_row : {ts : Row Item} {x : Item} {a b : ℕ} → a < i → b < i → RowAt ItemAt v ts a → RowAt ItemAt v (one x) b → Stands v i (More a b) (more ts x)
+  a_sequence : {s u : Statement} {a b : ℕ} → a < i → b < i → RowAt ItemAt v (one (action s)) a → RowAt ItemAt v (one (action u)) b → Stands v i (More a b) (one (action (sequence s u)))
+  a_label : {x : Name} {s : Statement} {w a : ℕ} → Named v w x → a < i → RowAt ItemAt v (one (action s)) a → Stands v i (Labelled w a) (one (action (labelled x s)))
+  a_condition : {p : ℕ} {e : Exp} {s : Statement} {a b : ℕ} → b < i → RowAt ItemAt v (one (action s)) b → Stands v i (Conditional p a b) (one (action (conditional p e s)))
+  a_repetition : {p : ℕ} {x : Name} {es : Row Element} {s : Statement} {w a b : ℕ} → b < i → RowAt ItemAt v (one (action s)) b → Stands v i (Repeated p w a b) (one (action (repeated p x es s)))
   an_assignment : {y : Variable} {e : Exp} {a b : ℕ} → Stands v i (Assigned a b) (one (action (assigned y e)))
   a_jump : {p : ℕ} {x : Name} {w : ℕ} → Stands v i (Go p w) (one (action (go p x)))
   a_choice : {p : ℕ} {x : Name} {e : Exp} {w a : ℕ} → Stands v i (Switched p w a) (one (action (switched p x e)))
@@ -28,7 +28,7 @@ module _ (v : View) (i : ℕ) where
   known_as : (n : Node) (t : Row Item) → node v i ≡ n → Stands v i n t → Stands v i (node v i) t
   known_as n t e s = subst (λ (m : Node). Stands v i m t) (sym e) s
 
-  pub stands : (t : Row Item) → RowAt Item_at v t i → Stands v i (node v i) t
+  pub stands : (t : Row Item) → RowAt ItemAt v t i → Stands v i (node v i) t
   stands (more ts x) h = known_as (More h.0 h.1) (more ts x) h.2 (a_row h.3 h.4 h.5 h.6)
   stands (one comment) h = known_as Comment (one comment) h a_comment
   stands (one (integer xs)) h = known_as (Integer h.0) (one (integer xs)) h.1 (integers h.3)
@@ -47,5 +47,5 @@ module _ (v : View) (i : ℕ) where
   stands (one (action (sequence s u))) h = known_as (More h.0 h.1) (one (action (sequence s u))) h.2 (a_sequence h.3 h.4 h.5 h.6)
 
   -- What stands at a node that is known.
-  pub stands_as : (n : Node) → node v i ≡ n → (t : Row Item) → RowAt Item_at v t i → Stands v i n t
+  pub stands_as : (n : Node) → node v i ≡ n → (t : Row Item) → RowAt ItemAt v t i → Stands v i n t
   stands_as n e t h = subst (λ (m : Node). Stands v i m t) e (stands t h)

@@ -2,7 +2,7 @@
 use Rattle.std.specs.Prelude.{◌≡◌, ℕ, ◌+◌, min, List, [], ◌∷◌, map, length, slice_index}
 use Rattle.grammar.specs.Tree.{Row, Item}
 use Rattle.parser.specs.declared.table.Record.{Record}
-use Rattle.parser.specs.Records.{View, nodes, bound_in, RowAt, Item_at}
+use Rattle.parser.specs.Records.{View, nodes, bound_in, RowAt, ItemAt}
 use Rattle.symbols.specs.Occurrences.{each, item_fors}
 use Rattle.symbols.specs.Symbols.{bound_value, extent}
 use Rattle.symbols.specs.Rules.{Claim, passing_claims}
@@ -54,4 +54,4 @@ pub record Counts (c : ℕ) (ps : List ℕ) (r : CellCount) : Type 0 where
   pub told : r.offence ≡ earliest_of (passing_claims c (for_claims ps))
 
 abbrev pub CountsItems : List Record → ℕ → ℕ → CellCount → Type 0
-CountsItems rs i c r = (v : View) (t : Row Item) → v.nodes ≡ nodes rs → RowAt Item_at v t i → Counts c (each item_fors t) r
+CountsItems rs i c r = (v : View) (t : Row Item) → v.nodes ≡ nodes rs → RowAt ItemAt v t i → Counts c (each item_fors t) r

@@ -4,7 +4,7 @@ use Rattle.std.specs.Prelude.{◌≡◌, ℕ, Bool, false, cond, ◌||◌, List,
 use Rattle.grammar.specs.Tree.{Row, Name, Group, Item}
 use Rattle.parser.specs.declared.node.Bound.{Bound as BoundRecord}
 use Rattle.parser.specs.declared.table.Record.{Record}
-use Rattle.parser.specs.Records.{View, bound_in, Named, NameAt, RowAt, GroupAt, Item_at}
+use Rattle.parser.specs.Records.{View, bound_in, Named, NameAt, RowAt, GroupAt, ItemAt}
 use Rattle.symbols.specs.declared.value_type.ValueType.TheVariants.{Integer, Boolean}
 use Rattle.symbols.specs.Occurrences.{Role, as_label, as_switch, as_array, of_type, Occurrence, at, each, all_at, in_group, in_item}
 use Rattle.symbols.specs.Rules.{second_definitions}
@@ -80,4 +80,4 @@ abbrev pub DeclaresGroups : Pass → List Record → ℕ → List NameRecord →
 DeclaresGroups p rs i lines lines' r = (v : View) (ns : List Name) (whole : List Occurrence) (gs : Row Group) → NumberedWords v rs ns → RowAt GroupAt v gs i → Heeds p v ns whole (each in_group gs) lines lines' r
 
 abbrev pub DeclaresItems : Pass → List Record → ℕ → List NameRecord → List NameRecord → Option ℕ → Type 0
-DeclaresItems p rs i lines lines' r = (v : View) (ns : List Name) (whole : List Occurrence) (t : Row Item) → NumberedWords v rs ns → RowAt Item_at v t i → Heeds p v ns whole (each in_item t) lines lines' r
+DeclaresItems p rs i lines lines' r = (v : View) (ns : List Name) (whole : List Occurrence) (t : Row Item) → NumberedWords v rs ns → RowAt ItemAt v t i → Heeds p v ns whole (each in_item t) lines lines' r

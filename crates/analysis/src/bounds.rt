@@ -2,7 +2,7 @@
 
 ghost use Rattle.std.specs.Prelude.{◌≡◌};
 ghost use Rattle.grammar.specs.Tree.{Row, Group as GroupTree, Item as ItemTree};
-ghost use Rattle.parser.specs.Records.{View, bound_in, GroupAt, RowAt, Item_at};
+ghost use Rattle.parser.specs.Records.{View, bound_in, GroupAt, RowAt, ItemAt};
 ghost use Rattle.symbols.specs.Occurrences.{each};
 ghost use Rattle.symbols.specs.Symbols.{bound_value};
 ghost use Rattle.symbols.specs.Rules.{bounds_ok, group_bounds, item_bounds};
@@ -62,7 +62,7 @@ fn groups_offence(records: &[Record], i: usize) -> Option<usize>
 
 // The earliest offence of the items at node i.
 pub fn bounds_offence(records: &[Record], i: usize) -> Option<usize>
-    ensures { (v : View) (t : Row ItemTree) → v.nodes ≡ nodes_of records.now → RowAt Item_at v t i → result ≡ earliest_of (each item_bounds t) }
+    ensures { (v : View) (t : Row ItemTree) → v.nodes ≡ nodes_of records.now → RowAt ItemAt v t i → result ≡ earliest_of (each item_bounds t) }
 {
     match ordered_node(records, i) {
         Node::More(before, last) => earlier(

@@ -2,7 +2,7 @@
 
 ghost use Rattle.std.specs.Prelude.{◌≡◌, ℕ, List};
 ghost use Rattle.grammar.specs.Tree.{Row, Name as NameTree, Item as ItemTree};
-ghost use Rattle.parser.specs.Records.{View, Named, NameAt, RowAt, Item_at};
+ghost use Rattle.parser.specs.Records.{View, Named, NameAt, RowAt, ItemAt};
 ghost use Rattle.symbols.specs.Occurrences.{each};
 ghost use Rattle.symbols.specs.Symbols.{Symbol, kind_in};
 ghost use Rattle.symbols.specs.Jumps.{leads_inside, some_name, switch_leads, item_jumps, wrong_jumps};
@@ -57,7 +57,7 @@ impl Tables<'_> {
 
     // The earliest offence of the items at node i, where the labels given are seen.
     fn jump_offence_seeing(&self, seen: &Labels, i: usize) -> Option<usize>
-        ensures { (v : View) (ss : List Symbol) (labels : List (List ℕ)) (t : Row ItemTree) → Holds v self.now ss → HoldsPlaces v self.now.records.now → SmallTable ss → Sees ss seen.now.lines labels → RowAt Item_at v t i → result ≡ earliest_of (each (item_jumps ss labels) t) }
+        ensures { (v : View) (ss : List Symbol) (labels : List (List ℕ)) (t : Row ItemTree) → Holds v self.now ss → HoldsPlaces v self.now.records.now → SmallTable ss → Sees ss seen.now.lines labels → RowAt ItemAt v t i → result ≡ earliest_of (each (item_jumps ss labels) t) }
     {
         match ordered_node(self.records, i) {
             Node::More(a, b) => {
@@ -86,7 +86,7 @@ impl Tables<'_> {
 
     // The earliest offence of the items at node i.
     pub fn jump_offence(&self, i: usize) -> Option<usize>
-        ensures { (v : View) (ss : List Symbol) (t : Row ItemTree) → Holds v self.now ss → HoldsPlaces v self.now.records.now → SmallTable ss → RowAt Item_at v t i → result ≡ earliest_of (wrong_jumps ss t) }
+        ensures { (v : View) (ss : List Symbol) (t : Row ItemTree) → Holds v self.now ss → HoldsPlaces v self.now.records.now → SmallTable ss → RowAt ItemAt v t i → result ≡ earliest_of (wrong_jumps ss t) }
     {
         let mut outer = Labels::new();
         outer.insert_open(self.records, i);

@@ -2,7 +2,7 @@
 
 ghost use Rattle.std.specs.Prelude.{◌≡◌, ℕ, ◌<◌, true, false, List, ◌++◌, ◌≢◌, slice_index_or};
 ghost use Rattle.grammar.specs.Tree.{Row, Item as ItemTree};
-ghost use Rattle.parser.specs.Records.{View, RowAt, Item_at};
+ghost use Rattle.parser.specs.Records.{View, RowAt, ItemAt};
 ghost use Rattle.symbols.specs.Occurrences.{each};
 ghost use Rattle.symbols.specs.Symbols.{Symbol};
 ghost use Rattle.symbols.specs.Jumps.{item_labels};
@@ -52,7 +52,7 @@ impl Labels {
 
     // Puts the labels of the items at node i that stand in no for's body within them into the set.
     pub fn insert_open(&mut self, records: &[Record], i: usize)
-        ensures { (v : View) (names : List NameRecord) (ss : List Symbol) (labels : List (List ℕ)) (t : Row ItemTree) → HoldsSymbols v records.now names ss → SmallTable ss → Sees ss self.old.lines labels → RowAt Item_at v t i → Sees ss self.new.lines (each item_labels t ++ labels) }
+        ensures { (v : View) (names : List NameRecord) (ss : List Symbol) (labels : List (List ℕ)) (t : Row ItemTree) → HoldsSymbols v records.now names ss → SmallTable ss → Sees ss self.old.lines labels → RowAt ItemAt v t i → Sees ss self.new.lines (each item_labels t ++ labels) }
     {
         match ordered_node(records, i) {
             Node::More(a, b) => {

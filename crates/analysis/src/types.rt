@@ -2,7 +2,7 @@
 
 ghost use Rattle.std.specs.Prelude.{◌≡◌, List};
 ghost use Rattle.grammar.specs.Tree.{Exp, first_byte, Variable as VariableTree};
-ghost use Rattle.parser.specs.Records.{View, nodes as nodes_of, Named, ExpAt, VariableAt, ElementAt, RowAt, Item_at};
+ghost use Rattle.parser.specs.Records.{View, nodes as nodes_of, Named, ExpAt, VariableAt, ElementAt, RowAt, ItemAt};
 ghost use Rattle.symbols.specs.Occurrences.{each};
 ghost use Rattle.symbols.specs.Symbols.{Symbol};
 ghost use Rattle.symbols.specs.Types.{told as told_at, differs as types_differ, name_type, variable_type, exp_offences, element_offences, wrong_types};
@@ -134,7 +134,7 @@ impl Tables<'_> {
 
     // The earliest offence of the items at node i.
     pub fn type_offence(&self, i: usize) -> Option<usize>
-        ensures { EarliestIn (RowAt Item_at) wrong_types self.now i result }
+        ensures { EarliestIn (RowAt ItemAt) wrong_types self.now i result }
     {
         match ordered_node(self.records, i) {
             Node::More(a, b) => {

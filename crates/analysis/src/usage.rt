@@ -1,7 +1,7 @@
 // Rule 8: names used against what they are.
 
 ghost use Rattle.std.specs.Prelude.{not};
-ghost use Rattle.parser.specs.Records.{Named, NameAt, ExpAt, ElementAt, RowAt, Item_at};
+ghost use Rattle.parser.specs.Records.{Named, NameAt, ExpAt, ElementAt, RowAt, ItemAt};
 ghost use Rattle.symbols.specs.Occurrences.{each, in_switch, all_at, in_exp, in_element, occurrences};
 ghost use Rattle.symbols.specs.Symbols.{kind_in};
 ghost use Rattle.symbols.specs.Types.{told as told_at};
@@ -92,7 +92,7 @@ impl Tables<'_> {
 
     // The earliest offence of the items at node i.
     pub fn misuse_offence(&self, i: usize) -> Option<usize>
-        ensures { EarliestIn (RowAt Item_at) (λ ss t. misused_names ss (occurrences t)) self.now i result }
+        ensures { EarliestIn (RowAt ItemAt) (λ ss t. misused_names ss (occurrences t)) self.now i result }
     {
         match ordered_node(self.records, i) {
             Node::More(a, b) => {

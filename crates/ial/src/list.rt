@@ -51,7 +51,11 @@ impl fmt::Display for Line {
         };
         match operation.operand() {
             Operand::Unused if operand == 0 => write!(f, "{place:>6}  {operation}"),
-            kind => write!(f, "{place:>6}  {operation:<6} {}", OperandInWords(kind, operand)),
+            kind => write!(
+                f,
+                "{place:>6}  {operation:<6} {}",
+                OperandInWords(kind, operand)
+            ),
         }
     }
 }

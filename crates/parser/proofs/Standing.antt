@@ -6,7 +6,7 @@ use Rattle.grammar.specs.Parser.{done}
 use Rattle.parser.specs.declared.node.Node.{Node}
 use Rattle.parser.specs.declared.node.Node.TheVariants.{Subscripted, Progression, More, Labelled, Conditional, Repeated, Assigned, Switched, Input, Printed, Integer, Boolean, Array, Group as GroupNode, Switch}
 use Rattle.parser.specs.declared.table.Parser.{Parser}
-use Rattle.parser.specs.Records.{View, view, node, ExpAt, VariableAt, ElementAt, NameAt, RowAt, StatementAt, GroupAt, Item_at, TreeAt}
+use Rattle.parser.specs.Records.{View, view, node, ExpAt, VariableAt, ElementAt, NameAt, RowAt, StatementAt, GroupAt, ItemAt, TreeAt}
 use Rattle.parser.specs.Promises.{Made, Moves, Spot, here, Goes, Read}
 use Rattle.parser.proofs.Going.{goes_made}
 use Rattle.parser.proofs.Holding.{Keeps, moves_keep, made_keeps, keeps_trans, made_node, named_stays, one_stays, two_stays, exp_stays, name_stays, Stays, row_stays}
@@ -58,7 +58,7 @@ module _ (s q : Parser) (m : Keeps s q) where
   statement_stays (sequence t u) i lt h =
       two_stays s q m i More (λ p. StatementAt (view s) t p) (λ p. StatementAt (view s) u p) (λ p. StatementAt (view q) t p) (λ p. StatementAt (view q) u p) lt (λ p k. statement_stays t p k) (λ p k. statement_stays u p k) h
 
-  pub item_stays : (x : Item) (i : ℕ) → i < s.made → Item_at (view s) x i → Item_at (view q) x i
+  pub item_stays : (x : Item) (i : ℕ) → i < s.made → ItemAt (view s) x i → ItemAt (view q) x i
   item_stays comment i lt h = m.kept i lt ∙ h
   item_stays (integer xs) i lt h = one_stays s q m i Integer (λ p. RowAt NameAt (view s) xs p) (λ p. RowAt NameAt (view q) xs p) lt (λ p k. row_stays identifier NameAt name_stays s q m xs p k) h
   item_stays (boolean xs) i lt h = one_stays s q m i Boolean (λ p. RowAt NameAt (view s) xs p) (λ p. RowAt NameAt (view q) xs p) lt (λ p k. row_stays identifier NameAt name_stays s q m xs p k) h

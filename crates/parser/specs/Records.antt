@@ -91,16 +91,16 @@ bound_in b = record { sign = b.sign; size = b.size }
 abbrev pub GroupAt : View → Group → ℕ → Type 0
 GroupAt v g i = (lo : BoundRecord) × (hi : BoundRecord) × One v i (λ p. GroupNode p g.bracket lo hi) (λ p. RowAt NameAt v g.names p) × (bound_in lo ≡ g.low) × (bound_in hi ≡ g.high)
 
-abbrev pub Item_at : View → Item → ℕ → Type 0
-Item_at v comment i = node v i ≡ Comment
-Item_at v (integer xs) i = One v i Integer (λ p. RowAt NameAt v xs p)
-Item_at v (boolean xs) i = One v i Boolean (λ p. RowAt NameAt v xs p)
-Item_at v (array gs) i = One v i Array (λ p. RowAt GroupAt v gs p)
-Item_at v (switch x xs) i = (w : ℕ) × One v i (Switch w) (λ p. RowAt NameAt v xs p) × Named v w x
-Item_at v (action s) i = StatementAt v s i
+abbrev pub ItemAt : View → Item → ℕ → Type 0
+ItemAt v comment i = node v i ≡ Comment
+ItemAt v (integer xs) i = One v i Integer (λ p. RowAt NameAt v xs p)
+ItemAt v (boolean xs) i = One v i Boolean (λ p. RowAt NameAt v xs p)
+ItemAt v (array gs) i = One v i Array (λ p. RowAt GroupAt v gs p)
+ItemAt v (switch x xs) i = (w : ℕ) × One v i (Switch w) (λ p. RowAt NameAt v xs p) × Named v w x
+ItemAt v (action s) i = StatementAt v s i
 
 abbrev pub ProgramAt : View → Row Item → ℕ → Type 0
-ProgramAt v t i = RowAt Item_at v t i
+ProgramAt v t i = RowAt ItemAt v t i
 
 -- The tree of a part stands at node i. No node holds a bound.
 abbrev pub TreeAt : (p : Part) → View → Tree p → ℕ → Type 0
@@ -112,4 +112,4 @@ TreeAt bound = λ v b i. ⊥
 TreeAt group = GroupAt
 TreeAt element = ElementAt
 TreeAt statement = StatementAt
-TreeAt item = Item_at
+TreeAt item = ItemAt

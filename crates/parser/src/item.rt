@@ -4,7 +4,7 @@ ghost use Rattle.std.specs.Prelude.{◌≡◌, ℕ, Some};
 ghost use Rattle.grammar.specs.Classes.{heads, the_keyword};
 ghost use Rattle.grammar.specs.Grammar.{a, item};
 ghost use Rattle.grammar.specs.Parser.{goto, begin};
-ghost use Rattle.parser.specs.Records.{ahead, Item_at};
+ghost use Rattle.parser.specs.Records.{ahead, ItemAt};
 ghost use Rattle.parser.specs.Promises.{Moves, Read, here};
 ghost use Rattle.parser.specs.Pieces.{ReadsPart};
 ghost use Rattle.parser.specs.Whole.{ReadsProgram};
@@ -52,7 +52,7 @@ impl Parser<'_> {
     fn comment(&mut self) -> usize
         requires begins { heads (the_keyword Keyword.Comment) (ahead self.old) ≡ Some tt }
         ensures moves { Moves self.old self.new }
-        ensures reads { (levels : ℕ) → Read Item_at levels self.old self.new (here (goto (begin (a item)))) result }
+        ensures reads { (levels : ℕ) → Read ItemAt levels self.old self.new (here (goto (begin (a item)))) result }
     {
         self.skip();
         self.make(Node::Comment)

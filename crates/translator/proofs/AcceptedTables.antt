@@ -7,7 +7,7 @@ use Rattle.meaning.specs.Names.{names_in, labels_of}
 use Rattle.code.specs.declared.operations.Operation.TheVariants.{Halt}
 use Rattle.translator.specs.Generator.{Entry, plain, size}
 use Rattle.translator.specs.Translation.{rows_code, table_code, table_size, tables_code, table_place, text_label, entries_of}
-use Rattle.translator.specs.Compiled.{Laid_out}
+use Rattle.translator.specs.Compiled.{LaidOut}
 use Rattle.translator.proofs.Behind.{to, behind}
 
 -- To drop as many entries as a table has is to drop the table.
@@ -58,7 +58,7 @@ module _ (ss : List Symbol) (s : Statement) where
       behind (names_in ss) (text_label (names_in ss) (Some s)) (table_place (suc (size (names_in ss) s)) ss) (size (names_in ss) s) s (named_cells ss) 0 n j _ e
 
   -- The HALT and the tables stand where the code of the statements looks for them.
-  pub text_laid_out : Laid_out (entries_of ss (Some s)) (names_in ss) (text_label (names_in ss) (Some s)) (table_place (suc (size (names_in ss) s)) ss) (size (names_in ss) s)
+  pub text_laid_out : LaidOut (entries_of ss (Some s)) (names_in ss) (text_label (names_in ss) (Some s)) (table_place (suc (size (names_in ss) s)) ss) (size (names_in ss) s)
   text_laid_out = record {
     halts =
         behind_text (size (names_in ss) s) 0 (omega arith)

@@ -19,7 +19,7 @@ use Rattle.translator.specs.Generator.{Entry, entry, plain, all_of, ready_size, 
 use Rattle.translator.specs.Translation.{posts_depth, elements_depth, depth, table_code}
 use Rattle.translator.specs.Fits.{ExtentFits}
 use Rattle.translator.specs.Limits.{ExpsSmall, Small}
-use Rattle.translator.specs.Compiled.{ExpsFit, Placed, Laid_out}
+use Rattle.translator.specs.Compiled.{ExpsFit, Placed, LaidOut}
 use Rattle.translator.proofs.Placing.{second, first_of, labelled_part, behind_if, governed, loop_placed}
 use Rattle.translator.proofs.Resuming.{Begins, element_begins}
 use Rattle.translator.proofs.Bridge.{operation_there}
@@ -61,7 +61,7 @@ module _ {V : Type 0} (kind : Kind V) (c : List Entry) (names : Names) (label_at
   statement_begins (stop p) q = (p, _, q.entries)
   statement_begins (sequence s t) q = statement_begins s (first_of kind c names label_at table_at halt_at v m outer q)
 
-  module _ (sizes : Sizes) (sized : Sized c halt_at v sizes) (wide : m ≤ sizes.cells) (lays : Laid_out c names label_at table_at halt_at) where
+  module _ (sizes : Sizes) (sized : Sized c halt_at v sizes) (wide : m ≤ sizes.cells) (lays : LaidOut c names label_at table_at halt_at) where
     abbrev os : List ℕ
     os = operations_of c
 

@@ -18,7 +18,7 @@ use Rattle.translator.specs.Generator.{Entry, entry, plain}
 use Rattle.translator.specs.Translation.{laid_out}
 use Rattle.translator.specs.Running.{state, runs}
 use Rattle.translator.specs.Simulation.{spread}
-use Rattle.translator.specs.Compiled.{Placed, Stands, Laid_out}
+use Rattle.translator.specs.Compiled.{Placed, Stands, LaidOut}
 
 -- There are v named cells and m in all, and the book has the caller's length.
 pub record Valid {V : Type 0} (v m : ℕ) (memory : statements.Memory V) (hidden unposted : List V) : Type 0 where
@@ -30,7 +30,7 @@ pub record Valid {V : Type 0} (v m : ℕ) (memory : statements.Memory V) (hidden
 pub record Setting {V : Type 0} (kind : Kind V) (c : List Entry) (names : Names) (label_at table_at : List ℕ → ℕ) (halt_at v m : ℕ) (outer : List ℕ → Bool) (root : Statement) : Type 0 where
   pub counts : (n : ℕ) → n ≤ 2048 → Counts kind n
   pub tells : Tells kind
-  pub laid_out : Laid_out c names label_at table_at halt_at
+  pub laid_out : LaidOut c names label_at table_at halt_at
   pub whole : Placed kind c names label_at table_at halt_at v m outer outer v 0 root halt_at
   pub outer_is : (l : List ℕ) → outer l ≡ has_label l root
 

@@ -181,7 +181,7 @@ module _ {V : Type 0} (kind : Kind V) (c : List Entry) (names : Names) (label_at
       × (a ≡ x.a + first_size names (type_of names l.control) f + addition_size names (type_of names l.control) s)
 
 -- The code of a whole text: its HALT, the tables of its switches, and its statements from place 0 on.
-pub record Laid_out (c : List Entry) (names : Names) (label_at table_at : List ℕ → ℕ) (halt_at : ℕ) : Type 0 where
+pub record LaidOut (c : List Entry) (names : Names) (label_at table_at : List ℕ → ℕ) (halt_at : ℕ) : Type 0 where
   pub halts : drop halt_at c ≡ plain Halt ∷ drop (suc halt_at) c
   pub tables : (x : List ℕ) → 1 ≤ length (names.labels x)
       → (r : List Entry) × (drop (table_at x) c ≡ table_code label_at (names.labels x) r) × (halt_at < table_at x)
