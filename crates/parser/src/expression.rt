@@ -99,6 +99,8 @@ impl Parser<'_> {
         if !self.next_is(Mark::OpenSquare) {
             return Ok(self.make(Node::Simple(name)));
         }
+        // `subscript` has these three steps too: called from here it would be one more function of the cycle, which goes by
+        // the levels that `open` leaves
         let inner = self.open(levels)?;
         let subscript = self.expression(1, inner)?;
         self.expect(Mark::CloseSquare)?;
