@@ -1,5 +1,5 @@
 -- A name that was taken.
-use Rattle.std.proofs.Common.{◌≡◌, ℕ, zero, suc, ◌<◌, List, [], ◌∷◌, length, get_or, drop, Bool, true, cond, is_some, Some, None, Option, sym, refl, ap, ◌∙◌, arith}
+use Rattle.std.proofs.Common.{◌≡◌, ℕ, zero, suc, ◌<◌, List, [], ◌∷◌, length, get_or, drop, true, cond, is_some, Some, None, Option, sym, refl, ap, ◌∙◌, arith}
 use Rattle.words.specs.Token.{Token, Word, name}
 use Rattle.grammar.specs.Tree.{Name}
 use Rattle.grammar.specs.Classes.{heads, a_name}

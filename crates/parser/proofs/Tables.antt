@@ -1,5 +1,5 @@
 -- Words and nodes of a table of records.
-use Rattle.std.proofs.Common.{◌≡◌, ℕ, zero, suc, ◌<◌, ◌≤◌, List, [], ◌∷◌, map, length, get_or, take, drop, set, Some, None, Option, sym, refl, ap, arith, Bor}
+use Rattle.std.proofs.Common.{◌≡◌, ℕ, zero, suc, ◌<◌, ◌≤◌, List, [], ◌∷◌, map, length, get_or, take, drop, set, Some, None, Option, refl, ap, arith, Bor}
 use Rattle.std.specs.Option.{option_map, IfSome, MatchOption}
 use Rattle.std.specs.List.{HoldsAt}
 use Rattle.words.specs.declared.word.Word.{Word as WordRecord}

@@ -6,8 +6,7 @@ use Rattle.words.specs.declared.word.Word.{Word as WordRecord}
 use Rattle.words.specs.Records.{word_in}
 use Rattle.grammar.specs.Tree.{Program}
 use Rattle.grammar.specs.Meaning.{Sentence}
-use Rattle.grammar.specs.Parser.{tree, parsed, initial}
-use Rattle.grammar.proofs.Sound.{run_at}
+use Rattle.grammar.specs.Parser.{tree}
 use Rattle.parser.specs.declared.node.Node.{Node}
 use Rattle.parser.specs.declared.parse.Sentence.{Sentence as SentenceRecord}
 use Rattle.parser.specs.declared.table.Record.{Record}

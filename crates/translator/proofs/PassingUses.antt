@@ -5,11 +5,11 @@ use Rattle.std.proofs.lemmas.Int.{ints}
 use Rattle.std.specs.Str.{bytes_eq}
 use Rattle.words.specs.declared.token.Sign.{Sign}
 use Rattle.words.specs.declared.token.Sign.TheVariants.{Plus, Minus}
-use Rattle.grammar.specs.Tree.{Row, Name, Bound, Program}
+use Rattle.grammar.specs.Tree.{Bound, Program}
 use Rattle.symbols.specs.Occurrences.{Role, as_label, as_switch, as_array, of_type, in_switch, as_target, as_selector, as_variable, as_element, Occurrence, occurrences}
 use Rattle.symbols.specs.Symbols.{Kind, a_label, a_switch, an_array, a_variable, definition, or_else, first_said, or_variable, signed, cells, low_bound, symbols, kind_in}
 use Rattle.symbols.specs.Jumps.{is_label}
-use Rattle.symbols.specs.Rules.{accepted, verdict, suits, is_array, is_variable}
+use Rattle.symbols.specs.Rules.{accepted, verdict, suits, is_array}
 use Rattle.symbols.specs.Laws.{In, here, later, BoundsInRange}
 use Rattle.symbols.proofs.Bounds.{bounds_in_range}
 use Rattle.symbols.proofs.Names.{names_agree}
