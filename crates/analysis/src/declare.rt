@@ -12,7 +12,7 @@ use parser::node::Node;
 use parser::table::Record;
 use symbols::value_type::ValueType;
 
-// Heeds a declaration of the name that is word w.
+// Heeds a declaration of the name that is word w. The two tables come apart and not as `Tables`: the lines are written here.
 fn declare<P: Pass>(
     records: &[Record],
     names: &mut [NameRecord],

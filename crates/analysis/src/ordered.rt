@@ -28,7 +28,8 @@ fn are_parts_before(node: Node, i: usize) -> bool
     }
 }
 
-// The node of this number, if its parts stand before it; otherwise none.
+// The node of this number, if its parts stand before it; otherwise none. Walks are lent the records alone where they look
+// at nothing else.
 pub fn ordered_node(records: &[Record], i: usize) -> Node
     ensures is { result ≡ ordered (node_of records.now i) i }
     ensures before { Before result i }

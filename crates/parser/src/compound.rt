@@ -73,7 +73,7 @@ impl Parser<'_> {
             Some(Keyword::In) => self.input(levels),
             Some(Keyword::Print) => self.print(levels),
             Some(Keyword::Stop) => Ok(self.stop()),
-            // The refusal is made only where it is told.
+            // A `match`: with `ok_or_else` the check does not find what is read.
             _ => match self.next_name() {
                 Some(name) => self.assignment(name, levels),
                 None => Err(self.refuse(SentenceRefusal::Unexpected)),

@@ -11,8 +11,8 @@ use grammar::refusal::SentenceRefusal;
 use words::token::Mark;
 
 impl Parser<'_> {
-    // Takes the next word, which has to be of the class, and says what it has of it. Two arms, since a closure that only
-    // refuses is no shorter.
+    // Takes the next word, which has to be of the class, and says what it has of it. Two arms, as in
+    // `expect_name`, so that taking and refusing stand side by side.
     pub(crate) fn expect<C: WordClass>(&mut self, class: C) -> Result<C::Found, Refusal>
         ensures moves { Moves self.old self.new }
         ensures took { Expects (C.class class) (C.content class) self.old self.new result }

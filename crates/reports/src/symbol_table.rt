@@ -61,7 +61,7 @@ pub struct SymbolTable<'a> {
 }
 
 impl SymbolTable<'_> {
-    // The heads of the columns, and the lines.
+    // The heads of the columns, and the lines. Made in memory, as each line is.
     pub fn columns(self, heap: Global) -> Result<String, AllocError>
         ensures { IfOk result (λ s. string_bytes s ≡ table_shown_in self.entry) }
     {
