@@ -5,3 +5,4 @@ pub mod Spelled
 pub mod OutlineSteps
 pub mod AsciiLetters
 pub mod Writing
+pub mod Reasons

@@ -1,7 +1,8 @@
 // A place of a text for people: its line and column, the line of text, and a caret under the place.
 
-ghost use Rattle.std.specs.Prelude.{◌≡◌, ◌≤◌, [], cond, Some};
+ghost use Rattle.std.specs.Prelude.{◌≡◌, ◌≤◌, [], cond, IfOk, Some};
 ghost use Rattle.std.specs.List.{flat_map};
+ghost use Rattle.std.specs.String.{string_bytes};
 ghost use Rattle.reading.specs.Refusal.{number, place as refusal_place};
 ghost use Rattle.reports.specs.Excerpts.{blanks_for, CaretLawOf, excerpt_of, part_of, refusal_of, shown_byte, words_of_place};
 ghost use Rattle.reports.specs.Reasons.{reason_of};
@@ -12,6 +13,7 @@ use crate::part::part;
 use crate::worded::Worded;
 use places::locate;
 use reading::refusal::TextRefusal;
+use std::alloc::{AllocError, Global};
 use std::fmt;
 
 // The part of a line that is shown: the bytes from `from` up to `to`.
@@ -161,7 +163,51 @@ impl fmt::Display for Excerpt<'_> {
     }
 }
 
-// A text's refusal: number, place and reason, and the line with its caret.
+// A refusal by its number, its place and the words of its reason, and the line with its caret. The number and the words
+// are the teller's, so that what is no refusal of a text, as a run's fault at its place, is told in the same form.
+#[derive(Clone, Copy)]
+pub struct Told<'a> {
+    pub text: &'a [u8],
+    pub number: u8,
+    pub place: usize,
+    pub reason: &'a str,
+}
+
+impl fmt::Display for Told<'_> {
+    ghost output = { λ t. Some (refusal_of t.text.now t.number t.place t.reason.now) };
+
+    fn fmt<W: fmt::Write>(&self, f: &mut fmt::Formatter<W>) -> fmt::Result {
+        let place = Place {
+            text: self.text,
+            byte: self.place,
+        };
+        let number = self.number;
+        let reason = self.reason;
+        let excerpt = place.excerpt();
+        write!(f, "refused {number} at {place}: {reason}\n{excerpt}")
+    }
+}
+
+// The same as a text of its own, in memory.
+pub fn refusal(
+    heap: Global,
+    text: &[u8],
+    number: u8,
+    place: usize,
+    reason: &str,
+) -> Result<String, AllocError>
+    ensures { IfOk result (λ s. string_bytes s ≡ refusal_of text.now number place reason.now) }
+{
+    let told = Told {
+        text,
+        number,
+        place,
+        reason,
+    };
+    told.to_string(heap)
+}
+
+// A text's refusal, which knows its number, its place and its reason.
 #[derive(Clone, Copy)]
 pub struct Refused<'a> {
     pub text: &'a [u8],
@@ -172,13 +218,12 @@ impl fmt::Display for Refused<'_> {
     ghost output = { λ r. Some (refusal_of r.text.now (number r.refusal) (refusal_place r.refusal) (reason_of (number r.refusal))) };
 
     fn fmt<W: fmt::Write>(&self, f: &mut fmt::Formatter<W>) -> fmt::Result {
-        let place = Place {
+        let told = Told {
             text: self.text,
-            byte: self.refusal.place(),
+            number: self.refusal.number(),
+            place: self.refusal.place(),
+            reason: self.refusal.wording(),
         };
-        let number = self.refusal.number();
-        let reason = self.refusal.wording();
-        let excerpt = place.excerpt();
-        write!(f, "refused {number} at {place}: {reason}\n{excerpt}")
+        write!(f, "{told}")
     }
 }

@@ -7,6 +7,7 @@ pub mod caption;
 pub mod cells;
 mod each;
 pub mod excerpt;
+pub mod names;
 mod part;
 pub mod reason;
 pub mod settings;

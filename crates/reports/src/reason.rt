@@ -1,5 +1,6 @@
 // Why a text is refused, in a rule writer's words.
 
+ghost use Rattle.std.specs.Prelude.{◌≡◌};
 ghost use Rattle.words.specs.Refusal.{number as word_number};
 ghost use Rattle.grammar.specs.Refusal.{number as sentence_number};
 ghost use Rattle.parser.specs.Refusal.{number as parse_number};
@@ -83,5 +84,28 @@ impl Worded for TextRefusal {
             TextRefusal::Sentence(refusal) => refusal.wording(),
             TextRefusal::Names(broken) => broken.rule.wording(),
         }
+    }
+}
+
+// The reason for a text's refusal by its number alone, as a file or another program may have kept it. A number that is no
+// refusal's has words that say so.
+pub fn reason(number: u8) -> &'static str
+    ensures { result.now ≡ reason_of number }
+{
+    match number {
+        1 => WordRefusal::TextTooLong.wording(),
+        2 => WordRefusal::NoWord.wording(),
+        3 => WordRefusal::WordTooLong.wording(),
+        4 => WordRefusal::TooManyWords.wording(),
+        5 => SentenceRefusal::Unexpected.wording(),
+        6 => SentenceRefusal::TooDeep.wording(),
+        7 => NameRefusal::SecondDefinition.wording(),
+        8 => NameRefusal::MisusedName.wording(),
+        9 => NameRefusal::WrongType.wording(),
+        10 => NameRefusal::JumpIntoFor.wording(),
+        11 => NameRefusal::WrongBounds.wording(),
+        12 => NameRefusal::TooManyCells.wording(),
+        13 => SentenceRefusal::TableTooShort.wording(),
+        _ => "no reason is known by this number",
     }
 }

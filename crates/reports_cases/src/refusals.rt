@@ -4,7 +4,8 @@ use analysis::offence::Broken;
 use grammar::refusal::SentenceRefusal;
 use parser::refusal::{ParseRefusal, Refusal as RefusedSentence};
 use reading::refusal::TextRefusal;
-use reports::excerpt::Refused;
+use reports::excerpt::{Refused, refusal};
+use reports::reason::reason;
 use std::test::Fail;
 use symbols::refusal::NameRefusal;
 use words::refusal::{Refusal as RefusedWord, WordRefusal};
@@ -125,5 +126,23 @@ fn refusals_shown(rt: HostRuntime) -> Result<(), Fail> {
         let shown = refused.to_string(rt.alloc())?;
         assert_eq!(rt; shown.as_str(), case.shown);
     }
+    Ok(())
+}
+
+// A run's fault is told at its text place in the same form, by its own number and words; a number has its words, or those
+// that say that it has none.
+#[test]
+fn told_by_number(rt: HostRuntime) -> Result<(), Fail> {
+    let text = b"x := 1 / 0";
+    let fault = refusal(rt.alloc(), text, 32, 7, "a division by zero")?;
+    let shown =
+        "refused 32 at byte 7 (line 1, column 8): a division by zero\n  x := 1 / 0\n         ^\n";
+    assert_eq!(rt; fault.as_str(), shown);
+    let words = refusal(rt.alloc(), text, 4, 0, reason(4))?;
+    let shown =
+        "refused 4 at byte 0 (line 1, column 1): the text has more than 500 words\n  x := 1 / 0\n  ^\n";
+    assert_eq!(rt; words.as_str(), shown);
+    assert_eq!(rt; reason(0), "no reason is known by this number");
+    assert_eq!(rt; reason(255), "no reason is known by this number");
     Ok(())
 }
