@@ -49,7 +49,8 @@ fn main(rt: HostRuntime) -> ExitCode {
     let Err(failure) = execute(&rt) else {
         return ExitCode::SUCCESS;
     };
-    if tell(&rt, &failure).is_err() {
+    // a result that cannot be written is a failure of its own; a failure that cannot be told stays untold
+    if tell(&rt, &failure).is_err() && matches!(failure, Failure::Code(_)) {
         let _ = tell(&rt, &Failure::Output);
     }
     ExitCode::FAILURE
