@@ -76,9 +76,11 @@ pub fn run<'a, R: Roll>(
     let mut ready = Ready::lone_halt();
     prepare(&mut ready, &code, cells)?;
     let mut run = ready.start();
-    // a call that is refused, as one at the end, changes nothing
+    // a call that is refused, as one at the end, changes nothing, and the next would be refused too
     for _ in 0..200 {
-        let _ = run.advance(slice, cells, stack, book, roll);
+        if run.advance(slice, cells, stack, book, roll).is_err() {
+            return Ok(run.status());
+        }
     }
     Ok(run.status())
 }

@@ -1,10 +1,11 @@
-use Rattle.std.proofs.Common.{◌∷◌, map, ap, ◌∙◌}
+use Rattle.std.proofs.Common.{◌∷◌, map, ap, sym, ◌∙◌}
 use Rattle.code.specs.CheckedCode.{code_in}
 use Rattle.code.specs.Codes.{code_of}
 use Rattle.machine.specs.Histories.{advanced, started, steps_in}
 use Rattle.machine.specs.Refusals.{answer}
 use Rattle.machine.specs.RunViews.{run_of}
-use Rattle.machine.specs.Runs.{cells_refusal, first_progress}
+use Rattle.machine.specs.Views.{memory}
+use Rattle.machine.specs.Runs.{cells_refusal, first_progress, Report}
 use Rattle.machine_cases.proofs.Reaching.{not_refused}
 use Rattle.machine_cases.proofs.runner.run.Goals as goal
 
@@ -27,4 +28,20 @@ loop-preserved g c =
       answers = steps_in (answer (λ n. n) c.advance.result) ∷ l.answers;
       started = l.started;
       history = advanced l.history c.advance.ensures.advanced;
+    }
+
+-- The run that a refused call leaves is reached by that call too.
+pub returns-then-is_err-clause-status : goal.returns-then-is_err-clause-status
+returns-then-is_err-clause-status g c =
+    let l = c.loop.invariant in
+    record {
+      now = _;
+      reached = record {
+        first = l.first;
+        answers = steps_in (answer (λ n. n) c.advance.result) ∷ l.answers;
+        started = l.started;
+        history = advanced l.history c.advance.ensures.advanced;
+      };
+      report = c.status.ensures;
+      memory = ap (λ (r : Report). memory g.R.Figure.Figures.means r.posted c.advance.new.cells c.advance.new.book (g.R.Roll.holds c.advance.new.roll)) (sym c.status.ensures);
     }
