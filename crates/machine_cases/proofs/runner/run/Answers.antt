@@ -1,12 +1,11 @@
-use Rattle.std.proofs.Common.{◌∷◌, map, ap, sym, ◌∙◌}
+use Rattle.std.proofs.Common.{map, ap, sym, ◌∙◌}
 use Rattle.code.specs.CheckedCode.{code_in}
 use Rattle.code.specs.Codes.{code_of}
-use Rattle.machine.specs.Histories.{advanced, started, steps_in}
-use Rattle.machine.specs.Refusals.{answer}
+use Rattle.machine.specs.Histories.{started}
 use Rattle.machine.specs.RunViews.{run_of}
 use Rattle.machine.specs.Views.{memory}
 use Rattle.machine.specs.Runs.{cells_refusal, first_progress, Report}
-use Rattle.machine_cases.proofs.Reaching.{not_refused}
+use Rattle.machine_cases.proofs.Reaching.{not_refused, reached_further}
 use Rattle.machine_cases.proofs.runner.run.Goals as goal
 
 pub loop-init : goal.loop-init
@@ -21,27 +20,14 @@ loop-init g c =
     }
 
 pub loop-preserved : goal.loop-preserved
-loop-preserved g c =
-    let l = c.loop.invariant in
-    record {
-      first = l.first;
-      answers = steps_in (answer (λ n. n) c.advance.result) ∷ l.answers;
-      started = l.started;
-      history = advanced l.history c.advance.ensures.advanced;
-    }
+loop-preserved g c = reached_further c.loop.invariant c.advance.ensures.advanced
 
 -- The run that a refused call leaves is reached by that call too.
 pub returns-then-is_err-clause-status : goal.returns-then-is_err-clause-status
 returns-then-is_err-clause-status g c =
-    let l = c.loop.invariant in
     record {
       now = _;
-      reached = record {
-        first = l.first;
-        answers = steps_in (answer (λ n. n) c.advance.result) ∷ l.answers;
-        started = l.started;
-        history = advanced l.history c.advance.ensures.advanced;
-      };
+      reached = reached_further c.loop.invariant c.advance.ensures.advanced;
       report = c.status.ensures;
       memory = ap (λ (r : Report). memory g.R.Figure.Figures.means r.posted c.advance.new.cells c.advance.new.book (g.R.Roll.holds c.advance.new.roll)) (sym c.status.ensures);
     }
